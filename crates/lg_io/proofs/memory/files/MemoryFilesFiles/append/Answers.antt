@@ -1,0 +1,7 @@
+use Rattle.lg_io.proofs.Called.{called}
+use Rattle.lg_io.proofs.memory.files.MemoryFilesFiles.append.Goals as goal
+
+pub returns-clause-told : goal.returns-clause-told
+returns-clause-told g c =
+    called c.args.self.now c.appear.new.self c.append-answer.new.self.log c.with-self.result _ _
+    c.appear.ensures.maps c.appear.ensures.calls c.append-answer.ensures.does c.with-self.ensures.0 c.with-self.ensures.1

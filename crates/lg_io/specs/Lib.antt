@@ -1,0 +1,14 @@
+pub mod Rest
+pub mod Cause
+pub mod Tells
+pub mod Source
+pub mod Sink
+pub mod Clock
+pub mod Door
+pub mod Net
+pub mod MemoryClock
+pub mod MemoryDoor
+pub mod MemoryNet
+pub mod Files
+pub mod MemoryFiles
+pub mod FileEvent

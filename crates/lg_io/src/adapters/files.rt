@@ -1,0 +1,112 @@
+ghost use Rattle.std.specs.Prelude.{◌≡◌, None, IsErr};
+ghost use Rattle.lg_io.specs.Cause.{HasCause};
+
+use crate::{FaultCount, FileRead, Files};
+use lg_base::{Failed, Text};
+use std::alloc::Global;
+use std::fs::{self, OpenOptions};
+use std::io::{self, ErrorKind, Read, Write};
+use std::rt;
+
+/// The files of the system, each by its path. They don't tell what they hold.
+#[derive(Drop)]
+pub struct DiskFiles<R> {
+    runtime: R,
+    faults: FaultCount,
+}
+
+impl<R: rt::Files> DiskFiles<R> {
+    /// The files of this runtime.
+    pub fn new(runtime: R) -> DiskFiles<R>
+        ensures { ⟦<DiskFiles<R> as Files>⟧.faults result ≡ 0 }
+    {
+        DiskFiles {
+            runtime,
+            faults: FaultCount::none(),
+        }
+    }
+
+    // Counts a call that failed.
+    fn counted<T>(&mut self, answer: io::Result<T>) -> Result<T, Failed>
+        ensures { HasCause self.old.faults.met self.new.faults.met (IsErr result) }
+    {
+        match answer {
+            Ok(value) => Ok(value),
+            Err(_) => {
+                self.faults = self.faults.with_one_more();
+                Err(Failed)
+            }
+        }
+    }
+}
+
+impl<R: rt::Files> Files for DiskFiles<R> {
+    ghost files = { λ _. None };
+
+    ghost faults = { λ f. f.faults.met };
+
+    fn read(&mut self, alloc: Global, path: &Text) -> FileRead {
+        match read_all(&self.runtime, alloc, path.as_str()) {
+            Ok(bytes) => FileRead::Found(bytes),
+            Err(error) => match error.kind() {
+                ErrorKind::NotFound => FileRead::Absent,
+                ErrorKind::OutOfMemory => FileRead::NoMemory,
+                _ => {
+                    self.faults = self.faults.with_one_more();
+                    FileRead::Failed
+                }
+            },
+        }
+    }
+
+    fn create(&mut self, path: &Text) -> Result<(), Failed> {
+        let made = fs::create(&self.runtime, path.as_str()).map(|_| ());
+        self.counted(made)
+    }
+
+    fn append(&mut self, path: &Text, piece: &[u8]) -> Result<(), Failed> {
+        let written = append_to(&self.runtime, path.as_str(), piece);
+        self.counted(written)
+    }
+
+    fn close(&mut self, _path: &Text) -> Result<(), Failed> {
+        Ok(())
+    }
+
+    fn rename(&mut self, from: &Text, to: &Text) -> Result<(), Failed> {
+        let moved = fs::rename(&self.runtime, from.as_str(), to.as_str());
+        self.counted(moved)
+    }
+
+    fn remove(&mut self, path: &Text) -> Result<(), Failed> {
+        match fs::remove_file(&self.runtime, path.as_str()) {
+            Err(error) if error.kind() == ErrorKind::NotFound => Ok(()),
+            removed => self.counted(removed),
+        }
+    }
+
+    fn exists(&mut self, path: &Text) -> Result<bool, Failed> {
+        let answer = fs::exists(&self.runtime, path.as_str());
+        self.counted(answer)
+    }
+
+    fn make_folder(&mut self, path: &Text) -> Result<(), Failed> {
+        let made = fs::create_dir_all(&self.runtime, path.as_str());
+        self.counted(made)
+    }
+}
+
+/// All bytes of a file.
+fn read_all(files: &impl rt::Files, alloc: Global, path: &str) -> io::Result<Vec<u8>> {
+    let mut bytes = Vec::new(alloc);
+    fs::open(files, path)?.read_to_end(&mut bytes)?;
+    Ok(bytes)
+}
+
+/// Writes a piece behind the bytes of a file that is there.
+fn append_to(files: &impl rt::Files, path: &str, piece: &[u8]) -> io::Result<()> {
+    OpenOptions::new()
+        .append(true)
+        .open(files, path)?
+        .write_all(piece)
+}

@@ -1,0 +1,61 @@
+ghost use Rattle.std.specs.Prelude.{◌≡◌, ℕ, ◌+◌, ◌≤◌, Option, Some, length, option_map, IfSome};
+ghost use Rattle.lg_io.specs.declared.door.Accept.TheVariants.{Closed, Failed};
+ghost use Rattle.lg_io.specs.Cause.{HasCause};
+ghost use Rattle.lg_io.specs.Door.{DoorTold, closed, accept_kind, accepted, told_done, IfConn, IsFresh, HasLinkOut};
+ghost use Rattle.lg_io.specs.Rest.{of_door};
+
+use crate::{Clock, Link};
+use std::alloc::Global;
+
+/// The answer of a door to `accept`.
+#[derive(Drop)]
+pub enum Accept<L> {
+    /// The next link.
+    Conn(L),
+    /// No link came now.
+    Quiet,
+    /// No link comes any more, now and for good.
+    Closed,
+    /// The call failed.
+    Failed,
+    /// The door found no memory for a link.
+    NoMemory,
+}
+
+/// What hands out links, each of which is to be handed back. It has a clock of its own.
+pub trait Door: Clock + Send {
+    /// A link that it hands out, in whatever thread the door is.
+    type Conn: Link + Send;
+
+    /// The kind of its last answer, how many links it handed out, and what the links that were handed back did,
+    /// where it tells.
+    ghost door: { Self → Option DoorTold };
+
+    /// How many of its calls of `accept` met a fault.
+    ghost faults: { Self → ℕ };
+
+    /// The next link, if one came.
+    fn accept(&mut self, alloc: Global) -> Accept<Self::Conn>
+        ensures told { door self.new ≡ option_map (accepted (accept_kind result)) (door self.old) }
+        ensures fresh { IfConn result (λ link. IsFresh (door self.old) (Self.Conn.received link) (Self.Conn.taken link)
+            (Self.Conn.Source.faults link) (Self.Conn.Sink.faults link)) }
+        ensures closed { IfSome (door self.old) (λ d. d.last ≡ Some closed → result ≡ Closed) }
+        ensures cause { HasCause (faults self.old) (faults self.new) (result ≡ Failed) }
+        ensures calls { Self.calls self.new ≡ Self.calls self.old }
+        ensures latest { Self.latest self.new ≡ Self.latest self.old };
+
+    /// Takes a link back.
+    fn done(&mut self, link: Self::Conn)
+        requires { HasLinkOut (door self.old) }
+        ensures told { door self.new ≡ told_done (Self.Conn.received link) (Self.Conn.taken link)
+            (Self.Conn.Source.faults link + Self.Conn.Sink.faults link) (door self.old) }
+        ensures faults { faults self.new ≡ faults self.old }
+        ensures calls { Self.calls self.new ≡ Self.calls self.old }
+        ensures latest { Self.latest self.new ≡ Self.latest self.old };
+
+    /// A reading or a pause changes nothing of what the door tells.
+    ghost clock_rest: { (d : Self) → Self.rest d ≡ of_door (door d) (faults d) };
+
+    /// No more links are handed back than were handed out.
+    ghost no_more_ended: { (d : Self) → IfSome (door d) (λ told. length told.ended ≤ told.handed) };
+}
