@@ -1,0 +1,5 @@
+mod Characters
+mod Commas
+mod Removal
+pub mod Sequence
+mod Trees

@@ -1,0 +1,6 @@
+pub mod Capped
+pub mod Escapes
+pub mod Fields
+pub mod Text
+pub mod Tree
+pub mod Writes

@@ -1,0 +1,11 @@
+//! JSON (RFC 8259): the trees of replies and their one compact text, and the fields of a request.
+#![tactic(auto)]
+
+mod escapes;
+mod fields;
+mod out;
+#[cfg(test)]
+mod tests;
+
+pub use fields::{Fields, TakeFault, WrongKind};
+pub use out::{Out, emit, length};
