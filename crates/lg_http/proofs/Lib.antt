@@ -1,0 +1,9 @@
+pub mod FieldLemmas
+pub mod HopeLemmas
+pub mod IncomingLemmas
+pub mod PieceLemmas
+pub mod Readings
+pub mod Sequence
+pub mod TargetLemmas
+pub mod TextLemmas
+pub mod WindowLemmas

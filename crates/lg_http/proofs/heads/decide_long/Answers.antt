@@ -1,0 +1,14 @@
+use Rattle.std.proofs.Common.{◌≡◌, ℕ, length, Err, ap, subst, ◌∙◌}
+use Rattle.httparse.specs.Spans.{RequestExceeds}
+use Rattle.lg_http.proofs.HopeLemmas.{unfinished_hopeful, no_more_fields}
+use Rattle.lg_http.proofs.heads.decide_long.Goals as goal
+
+pub cut_short-requires-clause-hopeful : goal.cut_short-requires-clause-hopeful
+cut_short-requires-clause-hopeful c =
+    unfinished_hopeful _ (let told = rw c.in-Ok-Partial.field-0-is at c.in-Ok-Partial.ensures in told.unfinished)
+
+pub broken-requires-clause-never : goal.broken-requires-clause-never
+broken-requires-clause-never c =
+    let room : length c.deref_mut.result.now ≡ length c.args.bytes.now = c.deref_mut.ensures.len ∙ c.in-Ok.ensures.len in
+    c.in-Err.ensures.invalid (λ many. no_more_fields c.args.bytes.now
+    (subst (λ (n : ℕ). RequestExceeds n c.args.bytes.now) room (c.in-Err.ensures.too_many (ap Err many))))

@@ -1,0 +1,71 @@
+-- What a reader keeps of a message that is not whole yet. This project's own.
+use Rattle.std.specs.Prelude.{◌≡◌, ℕ, ◌+◌, ◌-◌, ◌<◌, ◌≤◌, List, ◌++◌, length, Option, Some, None}
+use Rattle.httparse.specs.Grammar.{RequestHead, IsRequestHead, print_request}
+use Rattle.lg_http.specs.Fields.{content_length}
+use Rattle.lg_http.specs.Heads.{max_head, IsAccepted}
+use Rattle.lg_http.specs.Arrival.{Arrival}
+use Rattle.lg_http.specs.Answers.{Shows}
+use Rattle.lg_http.specs.Messages.{Request, message_bytes, IsMessage, IsBad, IsUndecided}
+use Rattle.lg_http.specs.declared.incoming.Incoming.{Incoming}
+use Rattle.lg_http.specs.declared.message.Next.{Next}
+use Rattle.lg_http.specs.declared.message.Next.TheVariants as Answer
+
+-- the window holds the head of the message that arrives, and nothing else
+pub record IsArriving (window : List ℕ) (arrival : Arrival) (head : RequestHead) : Type 0 where
+  pub grammar : IsRequestHead head
+  pub accepted : IsAccepted head
+  pub whole : window ≡ print_request head
+  pub short : length window ≤ max_head
+  pub sized : content_length head ≡ Some arrival.size
+  pub within : length arrival.read ≤ arrival.size
+  pub verb_is : arrival.verb ≡ head.method
+  pub target_is : arrival.target ≡ head.target
+
+-- what is kept is of one message
+abbrev pub IsKept : List ℕ → Option Arrival → Type 0
+IsKept window None = Unit {0}
+IsKept window (Some arrival) = (head : RequestHead) × IsArriving window arrival head
+
+-- the bytes that came and were not given out
+abbrev pub kept_bytes : List ℕ → Option Arrival → List ℕ
+kept_bytes window None = window
+kept_bytes window (Some arrival) = window ++ arrival.read
+
+-- more bytes can be read
+abbrev pub CanRead : List ℕ → Option Arrival → Type 0
+CanRead window None = length window < max_head
+CanRead window (Some arrival) = length arrival.read < arrival.size
+
+-- how many bytes can be read at most before an answer comes
+abbrev pub kept_room : List ℕ → Option Arrival → ℕ
+kept_room window None = 1048577 + (max_head - length window)
+kept_room window (Some arrival) = arrival.size - length arrival.read
+
+-- the same of what a reader keeps
+abbrev pub IsSound : Incoming → Type 0
+IsSound incoming = IsKept incoming.window incoming.arriving
+
+-- the bytes that it did not give out
+abbrev pub bytes_of : Incoming → List ℕ
+bytes_of incoming = kept_bytes incoming.window incoming.arriving
+
+-- it can read more
+abbrev pub HasRoom : Incoming → Type 0
+HasRoom incoming = CanRead incoming.window incoming.arriving
+
+-- how much more
+abbrev pub room_of : Incoming → ℕ
+room_of incoming = kept_room incoming.window incoming.arriving
+
+-- What is found in the bytes at hand: an answer, or that more bytes are wanted.
+abbrev pub Finds : Incoming → Option Next → Incoming → Type 0
+Finds old None new =
+    (bytes_of new ≡ bytes_of old) × IsUndecided (bytes_of old) × HasRoom new × (room_of new ≤ room_of old)
+Finds old (Some (Answer.Message message)) new =
+    (request : Request) × IsMessage request × Shows message request × (bytes_of old ≡ message_bytes request ++ bytes_of new)
+Finds old (Some Answer.End) new = ⊥
+Finds old (Some (Answer.Bad status)) new = (status ≡ 400) × (bytes_of new ≡ bytes_of old) × IsBad (bytes_of old)
+Finds old (Some Answer.Torn) new = ⊥
+Finds old (Some Answer.Quiet) new = ⊥
+Finds old (Some Answer.Failed) new = ⊥
+Finds old (Some Answer.NoMemory) new = bytes_of new ≡ bytes_of old

@@ -1,0 +1,10 @@
+pub mod Fields
+pub mod Heads
+pub mod Messages
+pub mod Reading
+pub mod Answers
+pub mod Decisions
+pub mod Given
+pub mod Arrival
+pub mod Incoming
+pub mod Response

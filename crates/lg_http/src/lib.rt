@@ -1,0 +1,22 @@
+//! HTTP/1.1 messages: from a source's bytes to requests, however the bytes were cut, and from a reply to bytes.
+#![tactic(auto)]
+
+mod arriving;
+mod ending;
+mod heads;
+mod incoming;
+mod laws;
+mod message;
+mod reader;
+mod response;
+mod target;
+mod window;
+
+pub use ending::Ending;
+pub use laws::{bad_stays, first_messages, never_both, one_reading};
+pub use message::{Message, Next};
+pub use reader::Reader;
+pub use response::respond;
+
+#[cfg(test)]
+mod tests;

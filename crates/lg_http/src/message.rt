@@ -1,0 +1,54 @@
+ghost use Rattle.std.specs.Prelude.{◌≡◌};
+ghost use Rattle.lg_http.specs.Answers.{ending_of};
+
+use crate::Ending;
+use lg_base::Text;
+
+/// A request.
+#[derive(Drop)]
+pub struct Message {
+    /// The method, as `POST`.
+    pub verb: Text,
+    /// The request target, not decoded.
+    pub target: Text,
+    /// The body, as it was sent: at most 1,048,576 bytes.
+    pub body: Vec<u8>,
+    /// Whether the head tells the body's length. In this build it always does.
+    pub sized: bool,
+    /// Whether the connection ends with this message. In this build it never does.
+    pub last: bool,
+}
+
+/// The answer of a reader.
+#[derive(Drop)]
+pub enum Next {
+    /// The next message.
+    Message(Message),
+    /// The input ended between two messages.
+    End,
+    /// What stands in a message's place is none. The number is the status to answer with: 400.
+    Bad(u16),
+    /// The input ended inside a message.
+    Torn,
+    /// The source has no bytes now. Call again.
+    Quiet,
+    /// A read failed.
+    Failed,
+    NoMemory,
+}
+
+impl Next {
+    /// Why this answer is the last, if it is.
+    pub(crate) fn ending(&self) -> Option<Ending>
+        ensures { result ≡ ending_of self.now }
+    {
+        match self {
+            Next::Message(_) | Next::Quiet => None,
+            Next::End => Some(Ending::Ended),
+            Next::Bad(status) => Some(Ending::Bad(*status)),
+            Next::Torn => Some(Ending::Torn),
+            Next::Failed => Some(Ending::Failed),
+            Next::NoMemory => Some(Ending::NoMemory),
+        }
+    }
+}

@@ -1,0 +1,59 @@
+ghost use Rattle.std.specs.Prelude.{◌≡◌, ℕ, List, [], ◌++◌, None, IsSome, IfOk};
+ghost use Rattle.lg_http.specs.declared.message.Next.TheVariants.{Failed};
+ghost use Rattle.lg_io.specs.Cause.{HasCause};
+ghost use Rattle.lg_http.specs.Answers.{Gave, Reads, ending_of};
+
+use crate::incoming::Incoming;
+use crate::{Ending, Next};
+use lg_base::NoMemory;
+use lg_io::Source;
+use std::alloc::Global;
+use std::marker::Model;
+
+/// Reads messages from a source, in whatever pieces it gives them. It keeps the bytes that it did not give out yet.
+#[derive(Drop)]
+pub struct Reader {
+    incoming: Incoming,
+    over: Option<Ending>,
+}
+
+impl Model for Reader {
+    ghost use Rattle.lg_http.specs.Reading.{Reading};
+    ghost use Rattle.lg_http.specs.Incoming.{IsSound, bytes_of};
+
+    ghost Value = { Reading };
+
+    ghost view = { λ r. record { left = bytes_of r.incoming; over = r.over } };
+
+    ghost invariant = { λ r. IsSound r.incoming };
+}
+
+impl Reader {
+    /// A reader that received nothing. It takes the memory for one head, 16,384 bytes.
+    pub fn make(alloc: Global) -> Result<Reader, NoMemory>
+        ensures { IfOk result (λ reader. (reader.left ≡ []) × (reader.over ≡ None)) }
+    {
+        Ok(Reader {
+            incoming: Incoming::make(alloc)?,
+            over: None,
+        })
+    }
+
+    /// The next message, once it is whole. After any answer but `Message` and `Quiet` the same answer comes again, and
+    /// nothing is read. At `NoMemory` no byte is lost, and nothing else is said.
+    pub fn next<R: Source>(&mut self, alloc: Global, source: &mut R) -> Next
+        ensures reads { self.old.over ≡ None → (got : List ℕ) × Gave (R.received source.old) (R.received source.new) got
+            × Reads (self.old.left ++ got) result self.new.left (R.received source.new) }
+        ensures over { self.new.over ≡ ending_of result }
+        ensures again { IsSome self.old.over → (self.new ≡ self.old) × (source.new ≡ source.old) }
+        ensures cause { self.old.over ≡ None → HasCause (R.faults source.old) (R.faults source.new) (result ≡ Failed) }
+        ensures rest { R.rest source.new ≡ R.rest source.old }
+    {
+        if let Some(ending) = self.over {
+            return ending.answer();
+        }
+        let answer = self.incoming.next(alloc, source);
+        self.over = answer.ending();
+        answer
+    }
+}
