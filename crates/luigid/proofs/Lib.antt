@@ -1,0 +1,12 @@
+pub mod Payloads
+pub mod Replays
+pub mod Places
+pub mod Journals
+pub mod Handlings
+pub mod Hearings
+pub mod Sessions
+pub mod Servings
+pub mod Lanes
+pub mod Writings
+pub mod Audits
+pub mod Runs

@@ -1,0 +1,64 @@
+-- What a run of the daemon comes to, from its parts.
+use Rattle.std.proofs.Common.{◌≡◌, ◌≢◌, ℕ, ◌<◌, ◌≤◌, List, [], ◌∷◌, map, length, get_or, refl, sym, ◌∙◌, subst, arith, Option, Some, None, inr}
+use Rattle.std.proofs.Math.ListN.{set}
+use Rattle.lg_io.specs.Net.{BindCall}
+use Rattle.lg_io.specs.Tells.{TellsOn}
+use Rattle.luigid.specs.declared.audit.LifeEnd.{LifeEnd}
+use Rattle.luigid.specs.declared.audit.LifeEnd.TheVariants.{Stop, Closed, Doors, Memory}
+use Rattle.luigid.specs.declared.exit.Exit.{Exit}
+use Rattle.luigid.specs.declared.exit.Exit.TheVariants.{BadWords, CannotListen}
+use Rattle.luigid.specs.declared.journal.Entry.{Entry}
+use Rattle.luigid.specs.declared.state.State.{State}
+use Rattle.luigid.specs.Audit.{LifeTold, EndsLife}
+use Rattle.luigid.specs.State.{empty_state}
+use Rattle.luigid.proofs.Audits.{told_whole}
+use Rattle.luigid.specs.Headline.{HasLane, DoorSeen, Outside, IsRun, IsLine, IsServedLife, ServedLife, HasBinding, exit_of, the_bind}
+
+-- a list of one item
+pub only_item : {A : Type 0} (xs : List A) (d : A) → 1 ≤ length xs → length xs < 2 → xs ≡ get_or xs 0 d ∷ []
+only_item [] d some few = absurd (omega arith)
+only_item (x ∷ []) d some few = refl
+only_item (x ∷ y ∷ xs) d some few = absurd (omega arith)
+
+-- what is seen of the one door, after it changed
+pub only_door : {A B : Type 0} (f : A → B) (doors : List A) (door : A) → length doors ≡ 1 → map f (set doors 0 door) ≡ f door ∷ []
+only_door f [] door one = absurd (omega arith)
+only_door f (first ∷ []) door one = refl
+only_door f (first ∷ second ∷ doors) door one = absurd (omega arith)
+
+-- a life's end is no end of a run without a life
+ends_life : (end : LifeEnd) → (exit_of end ≢ BadWords) × (exit_of end ≢ CannotListen)
+ends_life Stop = ((λ e. cc), (λ e. cc))
+ends_life Closed = ((λ e. cc), (λ e. cc))
+ends_life Doors = ((λ e. cc), (λ e. cc))
+ends_life Memory = ((λ e. cc), (λ e. cc))
+
+binding_of : (old new : Option (List BindCall)) (end : LifeEnd) → TellsOn old new (the_bind ∷ []) → HasBinding old new (exit_of end)
+binding_of old new Stop told = told
+binding_of old new Closed told = told
+binding_of old new Doors told = told
+binding_of old new Memory told = inr told
+
+-- a run that served a life
+pub run_served : (words : List (List ℕ)) (before after : Outside) (door : DoorSeen) (life : ServedLife) (exit : Exit)
+    → IsLine words → TellsOn before.binds after.binds (the_bind ∷ []) → (¬ (before.bind_faults < after.bind_faults))
+    → after.doors ≡ door ∷ [] → IsServedLife before.lives after.lives door life → exit ≡ exit_of life.end
+    → IsRun words before after exit
+run_served words before after door life exit line told no_fault one_door served exit_is = record {
+  line = ((λ bad. absurd ((ends_life life.end).0 (sym exit_is ∙ bad))), (λ not_line. absurd (not_line line)));
+  binding = subst (HasBinding before.binds after.binds) (sym exit_is) (binding_of before.binds after.binds life.end told);
+  cannot_listen = ((λ failed. absurd ((ends_life life.end).1 (sym exit_is ∙ failed))), (λ rose. absurd (no_fault rose)));
+  life = Some life;
+  lives = record { door = door; one_door = one_door; served = served; exit_is = exit_is };
+}
+
+-- a life that was told from its beginning to its end was served
+pub served_life : (base : State) (journal handed : List Entry) (end : LifeEnd) (door : DoorSeen) (before during after : Option (List LifeTold))
+    → base ≡ empty_state → handed ≡ journal
+    → TellsOn before during (record { base = base; end = None } ∷ []) → EndsLife handed end during after
+    → HasLane base 0 end journal door.door door.calls
+    → IsServedLife before after door (record { journal = handed; end = end })
+served_life base journal handed end door before during after base_is handed_is begun ended lane = record {
+  audited = subst (λ state. TellsOn before after (record { base = state; end = Some (handed, end) } ∷ [])) base_is (told_whole base handed end before during after begun ended);
+  lane = rw (← base_is, handed_is) lane;
+}

@@ -1,0 +1,135 @@
+-- The headline: what a run of the daemon is, for every list of words and every behaviour of the outside. This project's
+-- own.
+use Rattle.std.specs.Prelude.{◌≡◌, ℕ, ◌<◌, ◌↔◌, ◌⊎◌, true, false, List, [], ◌∷◌, ◌++◌, All, codes, Option, Some, None, IfSome}
+use Rattle.lg_io.specs.Clock.{ClockCall}
+use Rattle.lg_io.specs.Door.{DoorTold, closed, failed, no_memory, unused_door}
+use Rattle.lg_io.specs.Net.{BindCall}
+use Rattle.lg_io.specs.Sink.{Takes, IsPrefix}
+use Rattle.lg_io.specs.Tells.{TellsOn}
+use Rattle.luigid.specs.declared.audit.LifeEnd.{LifeEnd}
+use Rattle.luigid.specs.declared.audit.LifeEnd.TheVariants.{Stop, Closed, Doors, Memory}
+use Rattle.luigid.specs.declared.journal.Entry.{Entry}
+use Rattle.luigid.specs.declared.exit.Exit.{Exit}
+use Rattle.luigid.specs.declared.exit.Exit.TheVariants.{Served, BadWords, CannotListen, DoorsFailed, NoMemory}
+use Rattle.luigid.specs.Audit.{LifeTold}
+use Rattle.luigid.specs.Journal.{is_over}
+use Rattle.luigid.specs.Lane.{IsLane}
+use Rattle.luigid.specs.Session.{Session}
+use Rattle.luigid.specs.State.{empty_state}
+use Rattle.luigid.specs.declared.state.State.{State}
+
+-- what a door and its clock tell
+pub record DoorSeen : Type 0 where
+  pub door : Option DoorTold
+  pub calls : Option (List ClockCall)
+
+-- nobody called the door or its clock
+pub record IsUntouched (seen : DoorSeen) : Type 0 where
+  pub unused : IfSome seen.door (λ told. told ≡ unused_door)
+  pub uncalled : IfSome seen.calls (λ calls. calls ≡ [])
+
+-- what the outside tells: the calls of `bind` and how many of them failed, the doors that were bound, and the lives
+pub record Outside : Type 0 where
+  pub binds : Option (List BindCall)
+  pub bind_faults : ℕ
+  pub doors : List DoorSeen
+  pub lives : Option (List LifeTold)
+
+-- the words that are accepted
+abbrev pub IsLine : List (List ℕ) → Type 0
+IsLine words = words ≡ codes "--stdio" ∷ []
+
+-- the one call of `bind`
+abbrev pub the_bind : BindCall
+the_bind = record { address = codes "0.0.0.0"; port = 8082; doors = 1 }
+
+-- The cause of each end of a life: the journal holds a stop; else the door's last answer.
+abbrev pub HasEnd : LifeEnd → List Entry → DoorTold → Type 0
+HasEnd Stop journal door = is_over journal ≡ true
+HasEnd Closed journal door = (is_over journal ≡ false) × (door.last ≡ Some closed)
+HasEnd Doors journal door = (is_over journal ≡ false) × (door.last ≡ Some failed)
+HasEnd Memory journal door = (is_over journal ≡ false) × (door.last ≡ Some no_memory)
+
+-- A life over one door was served: where the door tells, its connections are served as they are to be, and the life
+-- ended for a cause.
+abbrev pub HasLane : State → ℕ → LifeEnd → List Entry → Option DoorTold → Option (List ClockCall) → Type 0
+HasLane base lane end journal door calls =
+    IfSome door (λ told. (sessions : List Session) × IsLane base journal lane told calls sessions × HasEnd end journal told)
+
+-- the program's end for a life's
+abbrev pub exit_of : LifeEnd → Exit
+exit_of Stop = Served
+exit_of Closed = Served
+exit_of Doors = DoorsFailed
+exit_of Memory = NoMemory
+
+-- a life that was served: its journal, and how it ended
+pub record ServedLife : Type 0 where
+  pub journal : List Entry
+  pub end : LifeEnd
+
+-- A life was served over one door: the audit is told of it, with the empty state as its base; the door's connections are
+-- served as they are to be; and it ended for a cause.
+pub record IsServedLife (before after : Option (List LifeTold)) (door : DoorSeen) (life : ServedLife) : Type 0 where
+  pub audited : TellsOn before after (record { base = empty_state; end = Some (life.journal, life.end) } ∷ [])
+  pub lane : HasLane empty_state 0 life.end life.journal door.door door.calls
+
+-- One life was served, over the one door that was bound; and the program ended as the life did.
+pub record IsOneLife (before after : Option (List LifeTold)) (doors : List DoorSeen) (exit : Exit) (life : ServedLife) : Type 0 where
+  pub door : DoorSeen
+  pub one_door : doors ≡ door ∷ []
+  pub served : IsServedLife before after door life
+  pub exit_is : exit ≡ exit_of life.end
+
+-- No life began: the words were bad, the door wasn't bound, or memory ran out; and no door was called.
+pub record IsWithoutLife (before after : Option (List LifeTold)) (doors : List DoorSeen) (exit : Exit) : Type 0 where
+  pub no_lives : after ≡ before
+  pub untouched : All IsUntouched doors
+  pub exit_is : (exit ≡ BadWords) ⊎ (exit ≡ CannotListen) ⊎ (exit ≡ NoMemory)
+
+-- the lives of a run: none, or one
+abbrev pub HasLives : Option (List LifeTold) → Option (List LifeTold) → List DoorSeen → Exit → Option ServedLife → Type 0
+HasLives before after doors exit None = IsWithoutLife before after doors exit
+HasLives before after doors exit (Some life) = IsOneLife before after doors exit life
+
+-- Bad words bind nothing. Memory may run out before the call or after it.
+abbrev pub HasBinding : Option (List BindCall) → Option (List BindCall) → Exit → Type 0
+HasBinding old new BadWords = new ≡ old
+HasBinding old new NoMemory = (new ≡ old) ⊎ TellsOn old new (the_bind ∷ [])
+HasBinding old new Served = TellsOn old new (the_bind ∷ [])
+HasBinding old new CannotListen = TellsOn old new (the_bind ∷ [])
+HasBinding old new DoorsFailed = TellsOn old new (the_bind ∷ [])
+
+-- A run of the daemon.
+pub record IsRun (words : List (List ℕ)) (before after : Outside) (exit : Exit) : Type 0 where
+  -- other words are refused, and nothing is refused but them
+  pub line : (exit ≡ BadWords) ↔ (¬ IsLine words)
+  -- the net is bound once, for good words alone
+  pub binding : HasBinding before.binds after.binds exit
+  pub cannot_listen : (exit ≡ CannotListen) ↔ (before.bind_faults < after.bind_faults)
+  -- its one life, if it had one
+  pub life : Option ServedLife
+  pub lives : HasLives before.lives after.lives after.doors exit life
+
+-- the status of each end
+abbrev pub status_of : Exit → ℕ
+status_of Served = 0
+status_of BadWords = 2
+status_of CannotListen = 4
+status_of DoorsFailed = 7
+status_of NoMemory = 71
+
+-- the line that each end writes
+abbrev pub line_of : Exit → List ℕ
+line_of Served = []
+line_of BadWords = codes "luigid: bad words" ++ 10 ∷ []
+line_of CannotListen = codes "luigid: cannot listen" ++ 10 ∷ []
+line_of DoorsFailed = codes "luigid: doors failed" ++ 10 ∷ []
+line_of NoMemory = codes "luigid: no memory" ++ 10 ∷ []
+
+-- a sink took a text and nothing else, or a front of it where its faults rose
+pub record Says (old new : Option (List ℕ)) (faults_before faults_after : ℕ) (text : List ℕ) : Type 0 where
+  pub front : List ℕ
+  pub is_front : IsPrefix front text
+  pub took : Takes old new front
+  pub all_of_it : faults_after ≡ faults_before → front ≡ text

@@ -1,0 +1,16 @@
+pub mod State
+pub mod Request
+pub mod Step
+pub mod Journal
+pub mod Replay
+pub mod Payload
+pub mod Call
+pub mod Transcript
+pub mod Session
+pub mod Lane
+pub mod Audit
+pub mod MemoryAudit
+pub mod Headline
+pub mod Said
+pub mod Handling
+pub mod Serving

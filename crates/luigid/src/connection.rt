@@ -1,0 +1,78 @@
+//! One connection: its messages, answered one after another.
+ghost use Rattle.std.specs.Prelude.{◌≡◌, [], All};
+ghost use Rattle.luigid.specs.declared.state.State.{State};
+ghost use Rattle.luigid.specs.Audit.{IsGoodEntry};
+ghost use Rattle.luigid.specs.Journal.{own_entries};
+ghost use Rattle.luigid.specs.Replay.{replay};
+ghost use Rattle.luigid.specs.Said.{HasTexts};
+ghost use Rattle.luigid.specs.Serving.{LinkTold, fresh_link, Serves, GoesOnBy};
+ghost use Rattle.luigid.specs.State.{IsValidState};
+
+use crate::handle::{Place, handle};
+use crate::hearing::{hear, speak, speak_bad_message};
+use crate::life::Life;
+use crate::said::Refusals;
+use lg_http::{Next, Reader};
+use lg_io::{Clock, Link};
+use std::alloc::Global;
+use std::sync::Wait;
+
+/// Serves a link to its end: each message is answered in order, until a last response, the end of the input, a fault, or
+/// want of memory. It may wait forever.
+pub fn serve_connection<R: Wait, L: Link, K: Clock>(
+    rt: &R,
+    alloc: Global,
+    life: &mut Life,
+    refusals: &Refusals,
+    lane: u16,
+    connection: u64,
+    link: &mut L,
+    clock: &mut K,
+)
+    requires valid { IsValidState life.old.state }
+    requires good { All IsGoodEntry life.old.journal }
+    requires texts { HasTexts refusals.now }
+    ensures serves { (base : State) → life.old.state ≡ replay base life.old.journal → own_entries lane connection life.old.journal ≡ []
+        → record { received = L.received link.old; taken = L.taken link.old; read_faults = L.Source.faults link.old; write_faults = L.Sink.faults link.old } ≡ fresh_link
+        → Serves base lane connection life.new.journal (K.calls clock.old) (K.calls clock.new)
+        record { received = L.received link.new; taken = L.taken link.new; read_faults = L.Source.faults link.new; write_faults = L.Sink.faults link.new } }
+    ensures goes_on { GoesOnBy lane connection life.old.journal life.new.journal }
+    ensures replayed { (base : State) → life.old.state ≡ replay base life.old.journal → life.new.state ≡ replay base life.new.journal }
+    ensures valid { IsValidState life.new.state }
+    ensures good { All IsGoodEntry life.new.journal }
+    ensures rest { K.rest clock.new ≡ K.rest clock.old }
+{
+    let Ok(mut reader) = Reader::make(alloc) else {
+        return;
+    };
+    for nth in 0..u64::MAX {
+        match hear(rt, alloc, &mut reader, link) {
+            Next::Message(message) => {
+                let place = Place {
+                    lane,
+                    connection,
+                    nth,
+                };
+                let said = handle(alloc, life, place, &message, clock);
+                if speak(&said, refusals, link).is_err() {
+                    return;
+                }
+                if said.is_last() {
+                    return;
+                }
+            }
+            Next::Bad(_) => {
+                let _ = speak_bad_message(refusals, link);
+                return;
+            }
+            Next::End => return,
+            Next::Torn => return,
+            Next::Failed => return,
+            Next::NoMemory => return,
+            Next::Quiet => unreachable!(),
+        }
+    }
+    // More messages than a number of 64 bits counts: no run gets here.
+    for _ in rt.forever() {}
+    unreachable!()
+}

@@ -1,0 +1,57 @@
+//! One link, heard and spoken to: what is read changes nothing of what was written, and the other way round.
+ghost use Rattle.std.specs.Prelude.{◌≡◌, ◌≢◌, ℕ, List, ◌++◌, None, IsErr};
+ghost use Rattle.lg_http.specs.declared.message.Next.TheVariants.{Quiet, Failed};
+ghost use Rattle.lg_http.specs.Answers.{Gave, Reads, ending_of};
+ghost use Rattle.lg_io.specs.Cause.{HasCause};
+ghost use Rattle.lg_io.specs.Sink.{WritesAll};
+ghost use Rattle.luigid.specs.Said.{answer_of, HasTexts};
+ghost use Rattle.luigid.specs.Transcript.{response_of, bad_message};
+
+use crate::said::{Refusals, Said};
+use lg_base::Failed as WriteFailed;
+use lg_http::{Next, Reader};
+use lg_io::Link;
+use std::alloc::Global;
+use std::sync::Wait;
+
+/// The next answer of a reader that isn't quiet. It may wait for it forever.
+pub fn hear<R: Wait, L: Link>(rt: &R, alloc: Global, reader: &mut Reader, link: &mut L) -> Next
+    requires { reader.old.over ≡ None }
+    ensures loud { result ≢ Quiet }
+    ensures reads { (got : List ℕ) × Gave (L.received link.old) (L.received link.new) got
+        × Reads (reader.old.left ++ got) result reader.new.left (L.received link.new) }
+    ensures over { reader.new.over ≡ ending_of result }
+    ensures cause { HasCause (L.Source.faults link.old) (L.Source.faults link.new) (result ≡ Failed) }
+    ensures taken { L.taken link.new ≡ L.taken link.old }
+    ensures wrote { L.Sink.faults link.new ≡ L.Sink.faults link.old }
+{
+    for _ in rt.forever() {
+        match reader.next(alloc, link) {
+            Next::Quiet => {}
+            next => return next,
+        }
+    }
+    unreachable!()
+}
+
+/// Writes a response to a link.
+pub fn speak<L: Link>(said: &Said, refusals: &Refusals, link: &mut L) -> Result<(), WriteFailed>
+    requires { HasTexts refusals.now }
+    ensures told { WritesAll (L.taken link.old) (L.taken link.new) (response_of (answer_of said.now)) result }
+    ensures cause { HasCause (L.Sink.faults link.old) (L.Sink.faults link.new) (IsErr result) }
+    ensures received { L.received link.new ≡ L.received link.old }
+    ensures read { L.Source.faults link.new ≡ L.Source.faults link.old }
+{
+    said.say(refusals, link)
+}
+
+/// Writes to a link that what stands in a message's place is none.
+pub fn speak_bad_message<L: Link>(refusals: &Refusals, link: &mut L) -> Result<(), WriteFailed>
+    requires { HasTexts refusals.now }
+    ensures told { WritesAll (L.taken link.old) (L.taken link.new) bad_message result }
+    ensures cause { HasCause (L.Sink.faults link.old) (L.Sink.faults link.new) (IsErr result) }
+    ensures received { L.received link.new ≡ L.received link.old }
+    ensures read { L.Source.faults link.new ≡ L.Source.faults link.old }
+{
+    refusals.say_bad_message(link)
+}

@@ -1,0 +1,89 @@
+//! A life: a state, and the journal of the calls that moved it on.
+ghost use Rattle.std.specs.Prelude.{◌≡◌, ◌^◌, ◌<◌, [], ◌∷◌, ◌++◌, IfOk, OnOk, OnErr};
+ghost use Rattle.lg_json.specs.Tree.{tree_of};
+ghost use Rattle.luigid.specs.Request.{IsInRange};
+ghost use Rattle.luigid.specs.Journal.{is_over};
+ghost use Rattle.luigid.specs.State.{IsValidState};
+ghost use Rattle.luigid.specs.Step.{step};
+
+use crate::journal::{Entry, Journal};
+use crate::state::State;
+use crate::step::{Reply, make_step};
+use lg_base::NoMemory;
+use std::alloc::Global;
+
+/// The scheduler of one thread, with its journal.
+#[derive(Debug, Drop)]
+pub struct Life {
+    /// The state behind the last entry.
+    pub state: State,
+    /// The calls, in order.
+    pub journal: Journal,
+    /// Whether the journal is over.
+    over: bool,
+    pub ghost is_marked: { over ≡ is_over journal },
+}
+
+impl Life {
+    /// A life that begins with this state.
+    pub fn begin(alloc: Global, base: State) -> Life
+        ensures state { result.state ≡ base }
+        ensures journal { result.journal ≡ [] }
+    {
+        Life {
+            state: base,
+            journal: Journal::new(alloc),
+            over: false,
+        }
+    }
+
+    /// Whether the journal is over: it holds a `stop`.
+    pub fn is_over(&self) -> bool
+        ensures { result ≡ is_over self.now.journal }
+    {
+        self.over
+    }
+
+    /// The journal, at the end of the life.
+    pub fn into_journal(self) -> Journal
+        ensures { result ≡ self.journal }
+    {
+        let Life {
+            state: _,
+            journal,
+            over: _,
+        } = self;
+        journal
+    }
+
+    /// Enters a call, and makes its step. Where memory runs out nothing is entered, and the state is as before.
+    pub fn call(&mut self, entry: Entry) -> Result<Reply, NoMemory>
+        requires in_time { entry.now.0 < 2 ^ 62 }
+        requires in_range { IsInRange entry.request }
+        requires valid { IsValidState self.old.state }
+        ensures entered { OnOk result (self.new.journal ≡ self.old.journal ++ entry ∷ []) }
+        ensures state { OnOk result (self.new.state ≡ (step self.old.state entry.now.0 entry.request).0) }
+        ensures reply { IfOk result (λ reply. tree_of reply.0 ≡ (step self.old.state entry.now.0 entry.request).1) }
+        ensures err { OnErr result ((self.new.journal ≡ self.old.journal) × (self.new.state ≡ self.old.state)) }
+        ensures valid { IsValidState self.new.state }
+    {
+        let now = entry.now;
+        let stops = entry.request.is_stop();
+        self.journal.enter(entry)?;
+        let newest = self.journal.len() - 1;
+        match make_step(
+            &mut self.state,
+            now,
+            &self.journal.entries()[newest].request,
+        ) {
+            Ok(reply) => {
+                self.over = self.over || stops;
+                Ok(reply)
+            }
+            Err(NoMemory) => {
+                self.journal.withdraw();
+                Err(NoMemory)
+            }
+        }
+    }
+}
