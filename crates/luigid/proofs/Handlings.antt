@@ -1,5 +1,5 @@
 -- What handling a message does, outcome by outcome.
-use Rattle.std.proofs.Common.{◌≡◌, ℕ, ◌+◌, ◌≤◌, Bool, List, [], ◌∷◌, ◌++◌, length, take, map, refl, sym, ◌∙◌, ap, Option, Some, None}
+use Rattle.std.proofs.Common.{◌≡◌, ℕ, ◌+◌, ◌≤◌, Bool, List, [], ◌∷◌, ◌++◌, length, take, map, refl, sym, ◌∙◌, ap, Option, Some, None, Ok, Err}
 use Rattle.std.proofs.lemmas.List.{append-nil}
 use Rattle.lg_base.specs.declared.moment.Moment.{Moment}
 use Rattle.lg_http.specs.declared.message.Message.{Message}
@@ -9,9 +9,10 @@ use Rattle.lg_io.specs.Clock.{ClockCall, reading}
 use Rattle.lg_io.specs.Tells.{TellsOn}
 use Rattle.lg_json.specs.Tree.{Tree}
 use Rattle.luigid.specs.declared.journal.Entry.{Entry}
+use Rattle.luigid.specs.declared.refusal.Refusal.{Refusal}
 use Rattle.luigid.specs.declared.request.Request.{Request}
 use Rattle.luigid.specs.declared.state.State.{State}
-use Rattle.luigid.specs.Call.{call_of, size_of}
+use Rattle.luigid.specs.Call.{call_of, size_of, MayWantMemory}
 use Rattle.luigid.specs.Handling.{Handles}
 use Rattle.luigid.specs.Journal.{is_over}
 use Rattle.luigid.specs.Replay.{replay}
@@ -43,24 +44,25 @@ pub same_entry : (lane connection nth pass size : ℕ) (message : Arrived) (requ
     → ◌≡◌ {A = Entry} (record { pass = pass; who = record { lane = lane; connection = connection; nth = nth; size = size }; now = now; request = request }) (entry_of lane connection nth message request now.0)
 same_entry lane connection nth pass size message request now pass_is size_is = rw (pass_is, size_is) refl
 
-pub handles_refused : (base : State) (lane connection nth : ℕ) (message : Arrived) (journal : List Entry) (calls : Option (List ClockCall))
-    → asked_by message ≡ None → Handles base lane connection nth message refused journal journal calls calls
-handles_refused base lane connection nth message journal calls none = record {
-  handled = record { message = message; answer = refused; entry = None; moments = [] };
+pub handles_refused : (base : State) (lane connection nth : ℕ) (message : Arrived) (journal : List Entry) (calls : Option (List ClockCall)) (refusal : Refusal)
+    → asked_by message ≡ Err refusal → Handles base lane connection nth message (refused refusal) journal journal calls calls
+handles_refused base lane connection nth message journal calls refusal reason = record {
+  handled = record { message = message; answer = refused refusal; entry = None; moments = [] };
   message_is = refl;
   answer_is = refl;
-  is_handled = record { is_none = none; not_entered = refl; not_read = refl };
+  is_handled = record { reason = reason; not_entered = refl; not_read = refl };
   enters = refl;
   read = TellsOn-nothing calls;
 }
 
 pub handles_without : (base : State) (lane connection nth : ℕ) (message : Arrived) (journal new : List Entry) (before after : Option (List ClockCall)) (moments : List ℕ)
-    → new ≡ journal → length moments ≤ 1 → TellsOn before after (map reading moments) → Handles base lane connection nth message no_memory journal new before after
-handles_without base lane connection nth message journal new before after moments same once read = record {
+    → MayWantMemory (asked_by message) → new ≡ journal → length moments ≤ 1 → TellsOn before after (map reading moments)
+    → Handles base lane connection nth message no_memory journal new before after
+handles_without base lane connection nth message journal new before after moments was_read same once read = record {
   handled = record { message = message; answer = no_memory; entry = None; moments = moments };
   message_is = refl;
   answer_is = refl;
-  is_handled = record { not_entered = refl; read_once = once };
+  is_handled = record { was_read = was_read; not_entered = refl; read_once = once };
   enters = same;
   read = read;
 }
@@ -68,7 +70,7 @@ handles_without base lane connection nth message journal new before after moment
 pub handles_replied : (base state : State) (lane connection nth : ℕ) (message : Arrived) (journal new : List Entry) (before after : Option (List ClockCall))
     (entry : Entry) (request : Request) (now : ℕ) (tree : Tree) (mark : Bool)
     → state ≡ replay base journal
-    → asked_by message ≡ Some request
+    → asked_by message ≡ Ok request
     → entry ≡ entry_of lane connection nth message request now
     → new ≡ journal ++ entry ∷ []
     → tree ≡ (step state entry.now.0 entry.request).1

@@ -1,3 +1,4 @@
+pub mod Calls
 pub mod Payloads
 pub mod Replays
 pub mod Places

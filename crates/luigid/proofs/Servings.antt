@@ -44,7 +44,7 @@ answered_stays base journal more lane connection nth h (replied tree mark) is =
       reply = reply_at-append base journal more is.place _ is.stands ∙ is.reply;
       marked = is.marked ∙ ap is_over (sym (take-append-le (is.place + 1) journal more (omega arith)));
     }
-answered_stays base journal more lane connection nth h refused is = is
+answered_stays base journal more lane connection nth h (refused refusal) is = is
 answered_stays base journal more lane connection nth h no_memory is = is
 
 pub handled_stays : (base : State) (journal more : List Entry) (lane connection nth : ℕ) (h : Handled)
@@ -102,7 +102,7 @@ is_own : (base : State) (journal : List Entry) (lane connection nth : ℕ) (h : 
 is_own base journal lane connection nth h (replied tree mark) placed is some =
     let same : placed ≡ (is.place, entry_of lane connection nth h.message is.request is.now) = cc in
     rw (same, eq-eqb lane lane refl, eq-eqb connection connection refl) refl
-is_own base journal lane connection nth h refused placed is some = absurd (cc)
+is_own base journal lane connection nth h (refused refusal) placed is some = absurd (cc)
 is_own base journal lane connection nth h no_memory placed is some = absurd (cc)
 
 kept_own : (lane connection : ℕ) (placed : ℕ × Entry) → is_of lane connection placed.1 ≡ true → filter (λ (p : ℕ × Entry). is_of lane connection p.1) (placed ∷ []) ≡ placed ∷ []

@@ -4,6 +4,8 @@ pub mod Step
 pub mod Journal
 pub mod Replay
 pub mod Payload
+pub mod Refusal
+pub mod Methods
 pub mod Call
 pub mod Transcript
 pub mod Session

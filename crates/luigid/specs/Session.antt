@@ -1,14 +1,15 @@
 -- One connection of a life: its messages with their answers and their entries. This project's own.
-use Rattle.std.specs.Prelude.{◌≡◌, ℕ, ◌+◌, ◌<◌, ◌≤◌, ◌⊎◌, Bool, true, false, List, [], ◌∷◌, ◌++◌, map, length, take, slice_get, All, Option, Some, None}
+use Rattle.std.specs.Prelude.{◌≡◌, ℕ, ◌+◌, ◌<◌, ◌≤◌, ◌⊎◌, Bool, true, false, List, [], ◌∷◌, ◌++◌, map, length, take, slice_get, All, Option, Some, None, Result, Ok, Err}
 use Rattle.std.specs.List.{flat_map, filter_map}
 use Rattle.lg_io.specs.Door.{EndedLink}
 use Rattle.lg_io.specs.Sink.{IsPrefix}
 use Rattle.lg_json.specs.Tree.{Tree}
 use Rattle.lg_http.specs.Messages.{Request as Message, message_bytes, IsMessage, IsBad, IsUndecided}
 use Rattle.luigid.specs.declared.journal.Entry.{Entry}
+use Rattle.luigid.specs.declared.refusal.Refusal.{Refusal}
 use Rattle.luigid.specs.declared.request.Request.{Request}
 use Rattle.luigid.specs.declared.state.State.{State}
-use Rattle.luigid.specs.Call.{call_of, size_of}
+use Rattle.luigid.specs.Call.{call_of, size_of, MayWantMemory}
 use Rattle.luigid.specs.Journal.{is_over, own_entries}
 use Rattle.luigid.specs.Replay.{reply_at}
 use Rattle.luigid.specs.Transcript.{Answer, replied, refused, no_memory, is_last, transcript}
@@ -43,8 +44,8 @@ entries_of session = filter_map (λ (h : Handled). h.entry) session.handled
 abbrev pub moments_of : Session → List ℕ
 moments_of session = flat_map (λ (h : Handled). h.moments) session.handled
 
--- the request that a message makes, if it makes one
-abbrev pub asked_by : Message → Option Request
+-- the request that a message makes, or why it makes none
+abbrev pub asked_by : Message → Result Request Refusal
 asked_by m = call_of m.head.method m.head.target m.body
 
 -- the entry of a message that makes that request, at that moment
@@ -62,28 +63,29 @@ pub record IsReplied (base : State) (journal : List Entry) (lane connection nth 
   pub place : ℕ
   pub now : ℕ
   pub request : Request
-  pub is_call : asked_by h.message ≡ Some request
+  pub is_call : asked_by h.message ≡ Ok request
   pub entered : h.entry ≡ Some (place, entry_of lane connection nth h.message request now)
   pub stands : slice_get journal place ≡ Some (entry_of lane connection nth h.message request now)
   pub read_once : h.moments ≡ now ∷ []
   pub reply : reply_at base journal place ≡ Some tree
   pub marked : mark ≡ is_over (take (place + 1) journal)
 
--- a message that makes no call: nothing is entered, and the clock isn't read
-pub record IsRefused (h : Handled) : Type 0 where
-  pub is_none : asked_by h.message ≡ None
+-- a message that makes no call, for this reason: nothing is entered, and the clock isn't read
+pub record IsRefused (h : Handled) (refusal : Refusal) : Type 0 where
+  pub reason : asked_by h.message ≡ Err refusal
   pub not_entered : h.entry ≡ None
   pub not_read : h.moments ≡ []
 
--- memory ran out: nothing is entered, and the clock was read at most once
+-- memory ran out in reading the payload, or in the call: nothing is entered, and the clock was read at most once
 pub record IsWithoutMemory (h : Handled) : Type 0 where
+  pub was_read : MayWantMemory (asked_by h.message)
   pub not_entered : h.entry ≡ None
   pub read_once : length h.moments ≤ 1
 
 -- what each answer says of its message
 abbrev pub IsAnswered : State → List Entry → ℕ → ℕ → ℕ → Handled → Answer → Type 0
 IsAnswered base journal lane connection nth h (replied tree mark) = IsReplied base journal lane connection nth h tree mark
-IsAnswered base journal lane connection nth h refused = IsRefused h
+IsAnswered base journal lane connection nth h (refused refusal) = IsRefused h refusal
 IsAnswered base journal lane connection nth h no_memory = IsWithoutMemory h
 
 -- the nth message of a connection was answered as it is to be

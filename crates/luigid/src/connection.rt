@@ -4,14 +4,14 @@ ghost use Rattle.luigid.specs.declared.state.State.{State};
 ghost use Rattle.luigid.specs.Audit.{IsGoodEntry};
 ghost use Rattle.luigid.specs.Journal.{own_entries};
 ghost use Rattle.luigid.specs.Replay.{replay};
-ghost use Rattle.luigid.specs.Said.{HasTexts};
+ghost use Rattle.luigid.specs.Said.{AreTexts};
 ghost use Rattle.luigid.specs.Serving.{LinkTold, fresh_link, Serves, GoesOnBy};
 ghost use Rattle.luigid.specs.State.{IsValidState};
 
 use crate::handle::{Place, handle};
 use crate::hearing::{hear, speak, speak_bad_message};
 use crate::life::Life;
-use crate::said::Refusals;
+use crate::texts::Texts;
 use lg_http::{Next, Reader};
 use lg_io::{Clock, Link};
 use std::alloc::Global;
@@ -23,7 +23,7 @@ pub fn serve_connection<R: Wait, L: Link, K: Clock>(
     rt: &R,
     alloc: Global,
     life: &mut Life,
-    refusals: &Refusals,
+    texts: &Texts,
     lane: u16,
     connection: u64,
     link: &mut L,
@@ -31,7 +31,7 @@ pub fn serve_connection<R: Wait, L: Link, K: Clock>(
 )
     requires valid { IsValidState life.old.state }
     requires good { All IsGoodEntry life.old.journal }
-    requires texts { HasTexts refusals.now }
+    requires texts { AreTexts texts.now }
     ensures serves { (base : State) → life.old.state ≡ replay base life.old.journal → own_entries lane connection life.old.journal ≡ []
         → record { received = L.received link.old; taken = L.taken link.old; read_faults = L.Source.faults link.old; write_faults = L.Sink.faults link.old } ≡ fresh_link
         → Serves base lane connection life.new.journal (K.calls clock.old) (K.calls clock.new)
@@ -54,7 +54,7 @@ pub fn serve_connection<R: Wait, L: Link, K: Clock>(
                     nth,
                 };
                 let said = handle(alloc, life, place, &message, clock);
-                if speak(&said, refusals, link).is_err() {
+                if speak(&said, texts, link).is_err() {
                     return;
                 }
                 if said.is_last() {
@@ -62,7 +62,7 @@ pub fn serve_connection<R: Wait, L: Link, K: Clock>(
                 }
             }
             Next::Bad(_) => {
-                let _ = speak_bad_message(refusals, link);
+                let _ = speak_bad_message(texts, link);
                 return;
             }
             Next::End => return,

@@ -1,18 +1,18 @@
 //! The daemon: its words, its door, its life, and how it ends.
-ghost use Rattle.std.specs.Prelude.{◌≡◌, ◌↔◌, ◌⊎◌, [], ◌∷◌, map, length, All, List, Err, IsTrue, IsErrOf, IfOk, OnOk, OnErr};
+ghost use Rattle.std.specs.Prelude.{◌≡◌, ◌↔◌, ◌⊎◌, [], ◌∷◌, ℕ, map, length, All, List, Err, IsTrue, IsErrOf, IfOk, OnOk, OnErr};
 ghost use Rattle.lg_io.specs.Cause.{HasCause};
 ghost use Rattle.lg_io.specs.Tells.{TellsOn};
 ghost use Rattle.luigid.specs.declared.exit.Exit.{Exit};
 ghost use Rattle.luigid.specs.declared.journal.Entry.{Entry};
 ghost use Rattle.luigid.specs.Headline.{IsUntouched, IsRun, IsServedLife, Says, IsLine, the_bind, status_of, line_of};
-ghost use Rattle.luigid.specs.Said.{HasTexts};
+ghost use Rattle.luigid.specs.Said.{AreTexts};
 
 use crate::audit::{Audit, LifeEnd};
 use crate::exit::Exit;
 use crate::lane::serve_lane;
 use crate::life::Life;
-use crate::said::Refusals;
 use crate::state::State;
+use crate::texts::Texts;
 use lg_base::{NoMemory, Text};
 use lg_io::{BindFault, Door, Files, Net, Numbers, Sink};
 use std::alloc::Global;
@@ -56,7 +56,7 @@ pub fn luigid<R: Wait, N: Net, F: Files, G: Numbers, U: Audit, O: Sink, S: Sink>
     run(rt, alloc, words, net, doors, audit).tell(err)
 }
 
-/// Reads the words, binds the door and serves one life.
+/// Reads the words, and serves where they are right.
 fn run<R: Wait, N: Net, U: Audit>(
     rt: &R,
     alloc: Global,
@@ -74,11 +74,30 @@ fn run<R: Wait, N: Net, U: Audit>(
     if !is_line(words) {
         return Exit::BadWords;
     }
-    let Ok(refusals) = Refusals::make(alloc) else {
-        return Exit::NoMemory;
-    };
+    match Texts::make(alloc) {
+        Ok(texts) => serve(rt, alloc, &texts, net, doors, audit),
+        Err(NoMemory) => Exit::NoMemory,
+    }
+}
+
+/// Binds the door and serves one life, once the words are right.
+fn serve<R: Wait, N: Net, U: Audit>(
+    rt: &R,
+    alloc: Global,
+    texts: &Texts,
+    net: &mut N,
+    doors: &mut Vec<N::Door>,
+    audit: &mut U,
+) -> Exit
+    requires empty { doors.old.items ≡ [] }
+    requires texts { AreTexts texts.now }
+    ensures { (words : List (List ℕ)) → IsLine words → IsRun words
+        record { binds = N.binds net.old; bind_faults = N.faults net.old; doors = []; lives = U.lives audit.old }
+        record { binds = N.binds net.new; bind_faults = N.faults net.new; doors = map (λ d. record { door = N.Door.door d; calls = N.Door.calls d }) doors.new.items; lives = U.lives audit.new }
+        result }
+{
     match listen(alloc, net, doors) {
-        Ok(()) => match serve_life(rt, alloc, &refusals, &mut doors[0], audit) {
+        Ok(()) => match serve_life(rt, alloc, texts, &mut doors[0], audit) {
             Ok(end) => Exit::from(end),
             Err(NoMemory) => Exit::NoMemory,
         },
@@ -118,11 +137,11 @@ fn listen<N: Net>(alloc: Global, net: &mut N, doors: &mut Vec<N::Door>) -> Resul
 fn serve_life<R: Wait, D: Door, U: Audit>(
     rt: &R,
     alloc: Global,
-    refusals: &Refusals,
+    texts: &Texts,
     door: &mut D,
     audit: &mut U,
 ) -> Result<LifeEnd, NoMemory>
-    requires texts { HasTexts refusals.now }
+    requires texts { AreTexts texts.now }
     requires untouched { IsUntouched record { door = D.door door.old; calls = D.calls door.old } }
     ensures ok { IfOk result (λ end. (journal : List Entry) × IsServedLife (U.lives audit.old) (U.lives audit.new)
         record { door = D.door door.new; calls = D.calls door.new } record { journal = journal; end = end }) }
@@ -131,7 +150,7 @@ fn serve_life<R: Wait, D: Door, U: Audit>(
     let base = State::empty(alloc);
     audit.begins(alloc, &base)?;
     let mut life = Life::begin(alloc, base);
-    let end = serve_lane(rt, alloc, &mut life, refusals, 0, door);
+    let end = serve_lane(rt, alloc, &mut life, texts, 0, door);
     audit.ends(life.into_journal(), end);
     Ok(end)
 }

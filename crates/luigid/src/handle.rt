@@ -10,7 +10,7 @@ ghost use Rattle.luigid.specs.Said.{answer_of};
 ghost use Rattle.luigid.specs.Serving.{GoesOnBy};
 ghost use Rattle.luigid.specs.State.{IsValidState};
 
-use crate::call::asked_by;
+use crate::call::{Asked, asked_by};
 use crate::journal::{CallName, Entry};
 use crate::life::Life;
 use crate::said::Said;
@@ -47,9 +47,9 @@ pub fn handle<K: Clock>(
     ensures good { All IsGoodEntry life.new.journal }
     ensures rest { K.rest clock.new ≡ K.rest clock.old }
 {
-    let asked = match asked_by(alloc, message) {
-        Ok(Some(asked)) => asked,
-        Ok(None) => return Said::Refused,
+    let (request, size) = match asked_by(alloc, message) {
+        Ok(Asked::Call(request, size)) => (request, size),
+        Ok(Asked::Refused(refusal)) => return Said::Refused(refusal),
         Err(NoMemory) => return Said::NoMemory,
     };
     let now = clock.now();
@@ -59,10 +59,10 @@ pub fn handle<K: Clock>(
             lane: place.lane,
             connection: place.connection,
             nth: place.nth,
-            size: asked.size,
+            size,
         },
         now,
-        request: asked.request,
+        request,
     };
     match life.call(entry) {
         Ok(reply) => Said::Replied(reply, life.is_over()),

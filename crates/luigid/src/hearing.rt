@@ -4,12 +4,13 @@ ghost use Rattle.lg_http.specs.declared.message.Next.TheVariants.{Quiet, Failed}
 ghost use Rattle.lg_http.specs.Answers.{Gave, Reads, ending_of};
 ghost use Rattle.lg_io.specs.Cause.{HasCause};
 ghost use Rattle.lg_io.specs.Sink.{WritesAll};
-ghost use Rattle.luigid.specs.Said.{answer_of, HasTexts};
+ghost use Rattle.luigid.specs.Said.{answer_of, AreTexts};
 ghost use Rattle.luigid.specs.Transcript.{response_of, bad_message};
 
-use crate::said::{Refusals, Said};
+use crate::said::Said;
+use crate::texts::Texts;
 use lg_base::Failed as WriteFailed;
-use lg_http::{Next, Reader};
+use lg_http::{Next, Reader, respond};
 use lg_io::Link;
 use std::alloc::Global;
 use std::sync::Wait;
@@ -35,23 +36,23 @@ pub fn hear<R: Wait, L: Link>(rt: &R, alloc: Global, reader: &mut Reader, link: 
 }
 
 /// Writes a response to a link.
-pub fn speak<L: Link>(said: &Said, refusals: &Refusals, link: &mut L) -> Result<(), WriteFailed>
-    requires { HasTexts refusals.now }
+pub fn speak<L: Link>(said: &Said, texts: &Texts, link: &mut L) -> Result<(), WriteFailed>
+    requires { AreTexts texts.now }
     ensures told { WritesAll (L.taken link.old) (L.taken link.new) (response_of (answer_of said.now)) result }
     ensures cause { HasCause (L.Sink.faults link.old) (L.Sink.faults link.new) (IsErr result) }
     ensures received { L.received link.new ≡ L.received link.old }
     ensures read { L.Source.faults link.new ≡ L.Source.faults link.old }
 {
-    said.say(refusals, link)
+    said.say(texts, link)
 }
 
 /// Writes to a link that what stands in a message's place is none.
-pub fn speak_bad_message<L: Link>(refusals: &Refusals, link: &mut L) -> Result<(), WriteFailed>
-    requires { HasTexts refusals.now }
+pub fn speak_bad_message<L: Link>(texts: &Texts, link: &mut L) -> Result<(), WriteFailed>
+    requires { AreTexts texts.now }
     ensures told { WritesAll (L.taken link.old) (L.taken link.new) bad_message result }
     ensures cause { HasCause (L.Sink.faults link.old) (L.Sink.faults link.new) (IsErr result) }
     ensures received { L.received link.new ≡ L.received link.old }
     ensures read { L.Source.faults link.new ≡ L.Source.faults link.old }
 {
-    refusals.say_bad_message(link)
+    respond(link, 400, texts.bad_message(), true)
 }

@@ -4,13 +4,13 @@ ghost use Rattle.lg_io.specs.declared.door.Accept.TheVariants.{Quiet};
 ghost use Rattle.lg_io.specs.Door.{accept_kind, accepted, unused_door, IfConn, IsFresh};
 ghost use Rattle.luigid.specs.Audit.{IsGoodEntry};
 ghost use Rattle.luigid.specs.Headline.{HasLane};
-ghost use Rattle.luigid.specs.Said.{HasTexts};
+ghost use Rattle.luigid.specs.Said.{AreTexts};
 ghost use Rattle.luigid.specs.State.{IsValidState};
 
 use crate::audit::LifeEnd;
 use crate::connection::serve_connection;
 use crate::life::Life;
-use crate::said::Refusals;
+use crate::texts::Texts;
 use lg_io::{Accept, Door};
 use std::alloc::Global;
 use std::sync::Wait;
@@ -21,13 +21,13 @@ pub fn serve_lane<R: Wait, D: Door>(
     rt: &R,
     alloc: Global,
     life: &mut Life,
-    refusals: &Refusals,
+    texts: &Texts,
     lane: u16,
     door: &mut D,
 ) -> LifeEnd
     requires valid { IsValidState life.old.state }
     requires begun { life.old.journal ≡ [] }
-    requires texts { HasTexts refusals.now }
+    requires texts { AreTexts texts.now }
     ensures served { IfSome (D.door door.old) (λ told. told ≡ unused_door)
         → IfSome (D.calls door.old) (λ calls. calls ≡ [])
         → HasLane life.old.state lane result life.new.journal (D.door door.new) (D.calls door.new) }
@@ -39,7 +39,7 @@ pub fn serve_lane<R: Wait, D: Door>(
         }
         match next_link(rt, alloc, door) {
             Accept::Conn(mut link) => {
-                serve_connection(rt, alloc, life, refusals, lane, connection, &mut link, door);
+                serve_connection(rt, alloc, life, texts, lane, connection, &mut link, door);
                 door.done(link);
             }
             Accept::Closed => return LifeEnd::Closed,

@@ -11,13 +11,16 @@ pub mod hearing;
 pub mod journal;
 pub mod lane;
 pub mod life;
+pub mod method;
 pub mod payload;
+pub mod refusal;
 pub mod request;
 pub mod said;
 pub mod state;
 pub mod step;
 #[cfg(test)]
 mod tests;
+pub mod texts;
 
 use audit::LineAudit;
 use daemon::luigid;

@@ -1,19 +1,5 @@
-use Rattle.std.proofs.Common.{◌≡◌, List, ◌⊎◌, inl, inr, rules, Option, Ok, Err, Result}
-use Rattle.lg_io.specs.declared.net.BindFault.{BindFault}
-use Rattle.lg_io.specs.declared.net.BindFault.TheVariants.{NoMemory}
-use Rattle.lg_io.specs.Net.{BindCall}
-use Rattle.lg_io.specs.Tells.{TellsOn}
-use Rattle.luigid.proofs.Runs.{run_served, only_door}
+use Rattle.std.proofs.Common.{rules}
 use Rattle.luigid.proofs.daemon.run.Goals as goal
 
--- where the doors were bound the call was made
-was_called : (old new : Option (List BindCall)) (calls : List BindCall) (unit : Unit {0})
-    → ((◌≡◌ {A = Result (Unit {0}) BindFault} (Ok unit) (Err NoMemory)) × (new ≡ old)) ⊎ TellsOn old new calls → TellsOn old new calls
-was_called old new calls unit (inl without) = let differ = without.0 in absurd (cc)
-was_called old new calls unit (inr told) = told
-
-pub returns-in-Ok-serve_life : goal.returns-in-Ok-serve_life
-returns-in-Ok-serve_life g c =
-    run_served _ _ _ _ record { journal = c.in-Ok-serve_life.ensures.ok.0; end = c.in-Ok-serve_life.end } _
-    (c.is_line.ensures.0 (search rules)) (was_called _ _ _ _ c.in-Ok-listen.ensures.told) (λ rose. let failed = c.in-Ok-listen.ensures.cause.rises.1 rose in cc)
-    (only_door _ _ _ c.in-Ok-listen.ensures.one) c.in-Ok-serve_life.ensures.ok.1 c.from.ensures
+pub returns-in-Ok : goal.returns-in-Ok
+returns-in-Ok g c = c.serve.ensures c.args.words.now (c.is_line.ensures.0 (search rules))

@@ -1,0 +1,249 @@
+//! What is refused, with the bytes of each response.
+use super::{PLAIN, Script, assert_served};
+use crate::audit::LifeEnd;
+use std::alloc::Global;
+use std::process::Abort;
+use std::sync::Wait;
+use std::test::Fail;
+
+/// The stop alone, and its response.
+const STOP: &[u8] = b"POST /api/stop HTTP/1.1\r\nHost: x\r\nContent-Length: 0\r\n\r\n";
+
+const STOPPED: &[u8] =
+    b"HTTP/1.1 200 OK\r\nContent-Type: application/json\r\nContent-Length: 17\r\nConnection: close\r\n\r\n{\"response\":null}";
+
+/// A method that nobody knows, one that isn't built, a payload that is no JSON; and then the two calls.
+const FIVE_MESSAGES: &[u8] =
+    b"POST /api/nope HTTP/1.1\r\nHost: x\r\nContent-Length: 0\r\n\r\nPOST /api/ping HTTP/1.1\r\nHost: x\r\nContent-Length: 0\r\n\r\nPOST /api/update_resource HTTP/1.1\r\nHost: x\r\nContent-Length: 6\r\n\r\ndata=xPOST /api/update_resource HTTP/1.1\r\nHost: x\r\nContent-Length: 56\r\n\r\ndata=%7B%22resource%22%3A%22gpu%22%2C%22amount%22%3A2%7DPOST /api/stop HTTP/1.1\r\nHost: x\r\nContent-Length: 0\r\n\r\n";
+
+/// The five responses.
+const FIVE_RESPONSES: &[u8] =
+    b"HTTP/1.1 404 Not Found\r\nContent-Type: application/json\r\nContent-Length: 26\r\n\r\n{\"error\":\"unknown method\"}HTTP/1.1 501 Not Implemented\r\nContent-Type: application/json\r\nContent-Length: 21\r\n\r\n{\"error\":\"not built\"}HTTP/1.1 400 Bad Request\r\nContent-Type: application/json\r\nContent-Length: 20\r\n\r\n{\"error\":\"bad json\"}HTTP/1.1 200 OK\r\nContent-Type: application/json\r\nContent-Length: 17\r\n\r\n{\"response\":true}HTTP/1.1 200 OK\r\nContent-Type: application/json\r\nContent-Length: 17\r\nConnection: close\r\n\r\n{\"response\":null}";
+
+/// The response to bytes that are no message.
+const BAD_MESSAGE: &[u8] =
+    b"HTTP/1.1 400 Bad Request\r\nContent-Type: application/json\r\nContent-Length: 23\r\nConnection: close\r\n\r\n{\"error\":\"bad message\"}";
+
+#[test]
+fn what_is_no_message_ends_the_connection(rt: HostRuntime) -> Result<(), Fail> {
+    let bad: [&[u8]; 5] = [
+        b"GET /api/stop HTTP/1.1\r\nHost: x\r\nContent-Length: 0\r\n\r\n",
+        b"POST /api/stop HTTP/1.1\r\nHost: x\r\n\r\n",
+        b"POST /api/stop HTTP/1.0\r\nHost: x\r\nContent-Length: 0\r\n\r\n",
+        b"PUT /api/stop HTTP/1.1\r\nHost: x\r\nConnection: close\r\nContent-Length: 0\r\n\r\n",
+        b"stop\r\n\r\n",
+    ];
+    for input in bad {
+        let script = Script {
+            input: Some(input),
+            ..PLAIN
+        };
+        assert_served(&rt, rt.alloc(), &script, BAD_MESSAGE, 0, LifeEnd::Closed)?;
+    }
+    Ok(())
+}
+
+#[test]
+fn refused_messages_leave_the_connection(rt: HostRuntime) -> Result<(), Fail> {
+    for most in 1..=FIVE_MESSAGES.len() {
+        let script = Script {
+            input: Some(FIVE_MESSAGES),
+            most,
+            ..PLAIN
+        };
+        assert_served(&rt, rt.alloc(), &script, FIVE_RESPONSES, 2, LifeEnd::Stop)?;
+    }
+    Ok(())
+}
+
+const BAD_VERB: &[u8] =
+    b"HTTP/1.1 405 Method Not Allowed\r\nContent-Type: application/json\r\nContent-Length: 20\r\n\r\n{\"error\":\"bad verb\"}";
+
+const UNKNOWN_PATH: &[u8] =
+    b"HTTP/1.1 404 Not Found\r\nContent-Type: application/json\r\nContent-Length: 24\r\n\r\n{\"error\":\"unknown path\"}";
+
+const UNKNOWN_METHOD: &[u8] =
+    b"HTTP/1.1 404 Not Found\r\nContent-Type: application/json\r\nContent-Length: 26\r\n\r\n{\"error\":\"unknown method\"}";
+
+const NOT_BUILT: &[u8] =
+    b"HTTP/1.1 501 Not Implemented\r\nContent-Type: application/json\r\nContent-Length: 21\r\n\r\n{\"error\":\"not built\"}";
+
+const BAD_JSON: &[u8] =
+    b"HTTP/1.1 400 Bad Request\r\nContent-Type: application/json\r\nContent-Length: 20\r\n\r\n{\"error\":\"bad json\"}";
+
+const MISSING_RESOURCE: &[u8] =
+    b"HTTP/1.1 400 Bad Request\r\nContent-Type: application/json\r\nContent-Length: 28\r\n\r\n{\"error\":\"missing resource\"}";
+
+const WRONG_KIND_RESOURCE: &[u8] =
+    b"HTTP/1.1 400 Bad Request\r\nContent-Type: application/json\r\nContent-Length: 31\r\n\r\n{\"error\":\"wrong kind resource\"}";
+
+const MISSING_AMOUNT: &[u8] =
+    b"HTTP/1.1 400 Bad Request\r\nContent-Type: application/json\r\nContent-Length: 26\r\n\r\n{\"error\":\"missing amount\"}";
+
+const WRONG_KIND_AMOUNT: &[u8] =
+    b"HTTP/1.1 400 Bad Request\r\nContent-Type: application/json\r\nContent-Length: 29\r\n\r\n{\"error\":\"wrong kind amount\"}";
+
+const OUT_OF_RANGE_AMOUNT: &[u8] =
+    b"HTTP/1.1 400 Bad Request\r\nContent-Type: application/json\r\nContent-Length: 31\r\n\r\n{\"error\":\"out of range amount\"}";
+
+/// Runs the daemon on a message with a stop behind it, and compares what the message was answered and how many calls
+/// were entered.
+fn assert_answered<R: Wait + Abort>(
+    rt: &R,
+    alloc: Global,
+    message: &[u8],
+    response: &[u8],
+    calls: usize,
+) -> Result<(), Fail> {
+    let mut input = message.to_vec(alloc)?;
+    input.extend_from_slice(STOP)?;
+    let mut output = response.to_vec(alloc)?;
+    output.extend_from_slice(STOPPED)?;
+    let script = Script {
+        input: Some(&input),
+        ..PLAIN
+    };
+    assert_served(rt, alloc, &script, &output, calls, LifeEnd::Stop)
+}
+
+#[test]
+fn each_refusal_has_its_response(rt: HostRuntime) -> Result<(), Fail> {
+    let refused: [(&[u8], &[u8]); 24] = [
+        (
+            b"PUT /api/stop HTTP/1.1\r\nHost: x\r\nContent-Length: 0\r\n\r\n",
+            BAD_VERB,
+        ),
+        (
+            b"post /api/stop HTTP/1.1\r\nHost: x\r\nContent-Length: 0\r\n\r\n",
+            BAD_VERB,
+        ),
+        (
+            b"PUT /nope HTTP/1.1\r\nHost: x\r\nContent-Length: 0\r\n\r\n",
+            BAD_VERB,
+        ),
+        (
+            b"POST /stop HTTP/1.1\r\nHost: x\r\nContent-Length: 0\r\n\r\n",
+            UNKNOWN_PATH,
+        ),
+        (
+            b"POST /api HTTP/1.1\r\nHost: x\r\nContent-Length: 0\r\n\r\n",
+            UNKNOWN_PATH,
+        ),
+        (
+            b"POST /API/stop HTTP/1.1\r\nHost: x\r\nContent-Length: 6\r\n\r\ndata=x",
+            UNKNOWN_PATH,
+        ),
+        (
+            b"POST /api/ HTTP/1.1\r\nHost: x\r\nContent-Length: 0\r\n\r\n",
+            UNKNOWN_METHOD,
+        ),
+        (
+            b"POST /api/stop/ HTTP/1.1\r\nHost: x\r\nContent-Length: 0\r\n\r\n",
+            UNKNOWN_METHOD,
+        ),
+        (
+            b"POST /api/%73top HTTP/1.1\r\nHost: x\r\nContent-Length: 0\r\n\r\n",
+            UNKNOWN_METHOD,
+        ),
+        (
+            b"POST /api/nope HTTP/1.1\r\nHost: x\r\nContent-Length: 6\r\n\r\ndata=x",
+            UNKNOWN_METHOD,
+        ),
+        (
+            b"POST /api/add_task HTTP/1.1\r\nHost: x\r\nContent-Length: 6\r\n\r\ndata=x",
+            NOT_BUILT,
+        ),
+        (
+            b"POST /api/worker_list HTTP/1.1\r\nHost: x\r\nContent-Length: 0\r\n\r\n",
+            NOT_BUILT,
+        ),
+        (
+            b"POST /api/stop HTTP/1.1\r\nHost: x\r\nContent-Length: 7\r\n\r\ndata=[]",
+            BAD_JSON,
+        ),
+        (
+            b"POST /api/stop HTTP/1.1\r\nHost: x\r\nContent-Length: 6\r\n\r\ndata={",
+            BAD_JSON,
+        ),
+        (
+            b"POST /api/stop HTTP/1.1\r\nHost: x\r\nContent-Length: 4\r\n\r\ndata",
+            BAD_JSON,
+        ),
+        (
+            b"POST /api/stop?data={} HTTP/1.1\r\nHost: x\r\nContent-Length: 6\r\n\r\ndata=1",
+            BAD_JSON,
+        ),
+        (
+            b"POST /api/update_resource HTTP/1.1\r\nHost: x\r\nContent-Length: 0\r\n\r\n",
+            MISSING_RESOURCE,
+        ),
+        (
+            b"POST /api/update_resource HTTP/1.1\r\nHost: x\r\nContent-Length: 35\r\n\r\ndata={\"resource\":null,\"amount\":\"x\"}",
+            MISSING_RESOURCE,
+        ),
+        (
+            b"POST /api/update_resource HTTP/1.1\r\nHost: x\r\nContent-Length: 32\r\n\r\ndata={\"resource\":1,\"amount\":\"x\"}",
+            WRONG_KIND_RESOURCE,
+        ),
+        (
+            b"POST /api/update_resource HTTP/1.1\r\nHost: x\r\nContent-Length: 23\r\n\r\ndata={\"resource\":\"gpu\"}",
+            MISSING_AMOUNT,
+        ),
+        (
+            b"POST /api/update_resource HTTP/1.1\r\nHost: x\r\nContent-Length: 36\r\n\r\ndata={\"resource\":\"gpu\",\"amount\":\"2\"}",
+            WRONG_KIND_AMOUNT,
+        ),
+        (
+            b"POST /api/update_resource HTTP/1.1\r\nHost: x\r\nContent-Length: 36\r\n\r\ndata={\"resource\":\"gpu\",\"amount\":2.0}",
+            WRONG_KIND_AMOUNT,
+        ),
+        (
+            b"POST /api/update_resource HTTP/1.1\r\nHost: x\r\nContent-Length: 43\r\n\r\ndata={\"resource\":\"gpu\",\"amount\":4294967296}",
+            OUT_OF_RANGE_AMOUNT,
+        ),
+        (
+            b"POST /api/update_resource HTTP/1.1\r\nHost: x\r\nContent-Length: 52\r\n\r\ndata={\"resource\":\"gpu\",\"amount\":9223372036854775808}",
+            OUT_OF_RANGE_AMOUNT,
+        ),
+    ];
+    for (message, response) in refused {
+        assert_answered(&rt, rt.alloc(), message, response, 1)?;
+    }
+    Ok(())
+}
+
+const ANSWERED_TRUE: &[u8] =
+    b"HTTP/1.1 200 OK\r\nContent-Type: application/json\r\nContent-Length: 17\r\n\r\n{\"response\":true}";
+
+const ANSWERED_FALSE: &[u8] =
+    b"HTTP/1.1 200 OK\r\nContent-Type: application/json\r\nContent-Length: 18\r\n\r\n{\"response\":false}";
+
+#[test]
+fn an_amount_below_0_is_answered_false(rt: HostRuntime) -> Result<(), Fail> {
+    let answered: [(&[u8], &[u8]); 5] = [
+        (
+            b"POST /api/update_resource HTTP/1.1\r\nHost: x\r\nContent-Length: 35\r\n\r\ndata={\"resource\":\"gpu\",\"amount\":-1}",
+            ANSWERED_FALSE,
+        ),
+        (
+            b"POST /api/update_resource HTTP/1.1\r\nHost: x\r\nContent-Length: 53\r\n\r\ndata={\"resource\":\"gpu\",\"amount\":-9223372036854775808}",
+            ANSWERED_FALSE,
+        ),
+        (
+            b"POST /api/update_resource HTTP/1.1\r\nHost: x\r\nContent-Length: 34\r\n\r\ndata={\"resource\":\"gpu\",\"amount\":0}",
+            ANSWERED_TRUE,
+        ),
+        (
+            b"POST /api/update_resource HTTP/1.1\r\nHost: x\r\nContent-Length: 43\r\n\r\ndata={\"resource\":\"gpu\",\"amount\":4294967295}",
+            ANSWERED_TRUE,
+        ),
+        (
+            b"POST /api/update_resource?data={\"resource\":1} HTTP/1.1\r\nHost: x\r\nContent-Length: 34\r\n\r\ndata={\"resource\":\"gpu\",\"amount\":2}",
+            ANSWERED_TRUE,
+        ),
+    ];
+    for (message, response) in answered {
+        assert_answered(&rt, rt.alloc(), message, response, 2)?;
+    }
+    Ok(())
+}
