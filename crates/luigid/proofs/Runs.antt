@@ -4,7 +4,7 @@ use Rattle.std.proofs.Math.ListN.{set}
 use Rattle.lg_io.specs.Net.{BindCall}
 use Rattle.lg_io.specs.Tells.{TellsOn}
 use Rattle.luigid.specs.declared.audit.LifeEnd.{LifeEnd}
-use Rattle.luigid.specs.declared.audit.LifeEnd.TheVariants.{Stop, Closed, Doors, Memory}
+use Rattle.luigid.specs.declared.audit.LifeEnd.TheVariants.{Stop, Full, Closed, Doors, Memory}
 use Rattle.luigid.specs.declared.exit.Exit.{Exit}
 use Rattle.luigid.specs.declared.exit.Exit.TheVariants.{BadWords, CannotListen}
 use Rattle.luigid.specs.declared.journal.Entry.{Entry}
@@ -29,12 +29,14 @@ only_door f (first ∷ second ∷ doors) door one = absurd (omega arith)
 -- a life's end is no end of a run without a life
 ends_life : (end : LifeEnd) → (exit_of end ≢ BadWords) × (exit_of end ≢ CannotListen)
 ends_life Stop = ((λ e. cc), (λ e. cc))
+ends_life Full = ((λ e. cc), (λ e. cc))
 ends_life Closed = ((λ e. cc), (λ e. cc))
 ends_life Doors = ((λ e. cc), (λ e. cc))
 ends_life Memory = ((λ e. cc), (λ e. cc))
 
 binding_of : (old new : Option (List BindCall)) (end : LifeEnd) → TellsOn old new (the_bind ∷ []) → HasBinding old new (exit_of end)
 binding_of old new Stop told = told
+binding_of old new Full told = told
 binding_of old new Closed told = told
 binding_of old new Doors told = told
 binding_of old new Memory told = inr told

@@ -1,7 +1,7 @@
 -- The lives that an audit is told of. This project's own.
 use Rattle.std.specs.Prelude.{◌≡◌, ℕ, ◌^◌, ◌<◌, List, [], ◌∷◌, ◌++◌, Option, Some, None, codes, decimal}
 use Rattle.luigid.specs.declared.audit.LifeEnd.{LifeEnd}
-use Rattle.luigid.specs.declared.audit.LifeEnd.TheVariants.{Stop, Closed, Doors, Memory}
+use Rattle.luigid.specs.declared.audit.LifeEnd.TheVariants.{Stop, Full, Closed, Doors, Memory}
 use Rattle.luigid.specs.declared.journal.Entry.{Entry}
 use Rattle.luigid.specs.declared.state.State.{State}
 use Rattle.luigid.specs.Request.{IsInRange}
@@ -35,6 +35,7 @@ pub record IsGoodEntry (e : Entry) : Type 0 where
 -- what stands behind the number in the line of a life
 abbrev pub end_of_line : LifeEnd → List ℕ
 end_of_line Stop = codes " stop" ++ 10 ∷ []
+end_of_line Full = codes " full" ++ 10 ∷ []
 end_of_line Closed = codes " closed" ++ 10 ∷ []
 end_of_line Doors = codes " doors" ++ 10 ∷ []
 end_of_line Memory = codes " memory" ++ 10 ∷ []

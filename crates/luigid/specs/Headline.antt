@@ -7,12 +7,12 @@ use Rattle.lg_io.specs.Net.{BindCall}
 use Rattle.lg_io.specs.Sink.{Takes, IsPrefix}
 use Rattle.lg_io.specs.Tells.{TellsOn}
 use Rattle.luigid.specs.declared.audit.LifeEnd.{LifeEnd}
-use Rattle.luigid.specs.declared.audit.LifeEnd.TheVariants.{Stop, Closed, Doors, Memory}
+use Rattle.luigid.specs.declared.audit.LifeEnd.TheVariants.{Stop, Full, Closed, Doors, Memory}
 use Rattle.luigid.specs.declared.journal.Entry.{Entry}
 use Rattle.luigid.specs.declared.exit.Exit.{Exit}
-use Rattle.luigid.specs.declared.exit.Exit.TheVariants.{Served, BadWords, CannotListen, DoorsFailed, NoMemory}
+use Rattle.luigid.specs.declared.exit.Exit.TheVariants.{Served, BadWords, CannotListen, DoorsFailed, JournalFull, NoMemory}
 use Rattle.luigid.specs.Audit.{LifeTold}
-use Rattle.luigid.specs.Journal.{is_over}
+use Rattle.luigid.specs.Journal.{has_stop, is_full, is_over}
 use Rattle.luigid.specs.Lane.{IsLane}
 use Rattle.luigid.specs.Session.{Session}
 use Rattle.luigid.specs.State.{empty_state}
@@ -43,9 +43,10 @@ IsLine words = words ≡ codes "--stdio" ∷ []
 abbrev pub the_bind : BindCall
 the_bind = record { address = codes "0.0.0.0"; port = 8082; doors = 1 }
 
--- The cause of each end of a life: the journal holds a stop; else the door's last answer.
+-- The cause of each end of a life: the journal holds a stop; else it is full; else the door's last answer.
 abbrev pub HasEnd : LifeEnd → List Entry → DoorTold → Type 0
-HasEnd Stop journal door = is_over journal ≡ true
+HasEnd Stop journal door = has_stop journal ≡ true
+HasEnd Full journal door = (has_stop journal ≡ false) × (is_full journal ≡ true)
 HasEnd Closed journal door = (is_over journal ≡ false) × (door.last ≡ Some closed)
 HasEnd Doors journal door = (is_over journal ≡ false) × (door.last ≡ Some failed)
 HasEnd Memory journal door = (is_over journal ≡ false) × (door.last ≡ Some no_memory)
@@ -59,6 +60,7 @@ HasLane base lane end journal door calls =
 -- the program's end for a life's
 abbrev pub exit_of : LifeEnd → Exit
 exit_of Stop = Served
+exit_of Full = JournalFull
 exit_of Closed = Served
 exit_of Doors = DoorsFailed
 exit_of Memory = NoMemory
@@ -99,6 +101,7 @@ HasBinding old new NoMemory = (new ≡ old) ⊎ TellsOn old new (the_bind ∷ []
 HasBinding old new Served = TellsOn old new (the_bind ∷ [])
 HasBinding old new CannotListen = TellsOn old new (the_bind ∷ [])
 HasBinding old new DoorsFailed = TellsOn old new (the_bind ∷ [])
+HasBinding old new JournalFull = TellsOn old new (the_bind ∷ [])
 
 -- A run of the daemon.
 pub record IsRun (words : List (List ℕ)) (before after : Outside) (exit : Exit) : Type 0 where
@@ -117,6 +120,7 @@ status_of Served = 0
 status_of BadWords = 2
 status_of CannotListen = 4
 status_of DoorsFailed = 7
+status_of JournalFull = 8
 status_of NoMemory = 71
 
 -- the line that each end writes
@@ -125,6 +129,7 @@ line_of Served = []
 line_of BadWords = codes "luigid: bad words" ++ 10 ∷ []
 line_of CannotListen = codes "luigid: cannot listen" ++ 10 ∷ []
 line_of DoorsFailed = codes "luigid: doors failed" ++ 10 ∷ []
+line_of JournalFull = codes "luigid: journal full" ++ 10 ∷ []
 line_of NoMemory = codes "luigid: no memory" ++ 10 ∷ []
 
 -- a sink took a text and nothing else, or a front of it where its faults rose

@@ -19,6 +19,8 @@ use std::alloc::Global;
 pub enum LifeEnd {
     /// The journal holds a `stop`.
     Stop,
+    /// The journal has its most entries or its most bytes.
+    Full,
     /// Each door answered that it is closed.
     Closed,
     /// Each door that isn't closed failed, and at least one did.

@@ -29,8 +29,8 @@ const PORT: u16 = 8082;
 const STDIO: &[u8] = b"--stdio";
 
 /// Runs the daemon, and answers the status of its process: 0 after a `stop` or where the door closed; 2 for bad words; 4
-/// where the door couldn't be bound; 7 where the door failed; 71 where memory ran out outside a request. It may wait
-/// forever.
+/// where the door couldn't be bound; 7 where the door failed; 8 where the journal is full; 71 where memory ran out outside
+/// a request. It may wait forever.
 pub fn luigid<R: Wait, N: Net, F: Files, G: Numbers, U: Audit, O: Sink, S: Sink>(
     rt: &R,
     alloc: Global,

@@ -15,6 +15,8 @@ pub enum Exit {
     CannotListen,
     /// The doors failed.
     DoorsFailed,
+    /// The last life's journal is full.
+    JournalFull,
     /// Memory ran out outside a request.
     NoMemory,
 }
@@ -27,6 +29,7 @@ impl From<LifeEnd> for Exit {
     fn from(end: LifeEnd) -> Exit {
         match end {
             LifeEnd::Stop | LifeEnd::Closed => Exit::Served,
+            LifeEnd::Full => Exit::JournalFull,
             LifeEnd::Doors => Exit::DoorsFailed,
             LifeEnd::Memory => Exit::NoMemory,
         }
@@ -45,6 +48,7 @@ impl Exit {
             Exit::BadWords => 2,
             Exit::CannotListen => 4,
             Exit::DoorsFailed => 7,
+            Exit::JournalFull => 8,
             Exit::NoMemory => 71,
         }
     }
@@ -58,6 +62,7 @@ impl Exit {
             Exit::BadWords => "luigid: bad words\n",
             Exit::CannotListen => "luigid: cannot listen\n",
             Exit::DoorsFailed => "luigid: doors failed\n",
+            Exit::JournalFull => "luigid: journal full\n",
             Exit::NoMemory => "luigid: no memory\n",
         }
     }

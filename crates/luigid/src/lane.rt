@@ -34,8 +34,11 @@ pub fn serve_lane<R: Wait, D: Door>(
     ensures good { All IsGoodEntry life.new.journal }
 {
     for connection in 0..u64::MAX {
-        if life.is_over() {
+        if life.is_stopped() {
             return LifeEnd::Stop;
+        }
+        if life.is_over() {
+            return LifeEnd::Full;
         }
         match next_link(rt, alloc, door) {
             Accept::Conn(mut link) => {

@@ -1,8 +1,8 @@
 //! A life: a state, and the journal of the calls that moved it on.
-ghost use Rattle.std.specs.Prelude.{◌≡◌, ◌^◌, ◌<◌, [], ◌∷◌, ◌++◌, IfOk, OnOk, OnErr};
+ghost use Rattle.std.specs.Prelude.{◌≡◌, ◌^◌, ◌-◌, ◌<◌, min, [], ◌∷◌, ◌++◌, IfOk, OnOk, OnErr};
 ghost use Rattle.lg_json.specs.Tree.{tree_of};
 ghost use Rattle.luigid.specs.Request.{IsInRange};
-ghost use Rattle.luigid.specs.Journal.{is_over};
+ghost use Rattle.luigid.specs.Journal.{has_stop, is_full, is_over, payload_bytes};
 ghost use Rattle.luigid.specs.State.{IsValidState};
 ghost use Rattle.luigid.specs.Step.{step};
 
@@ -12,6 +12,12 @@ use crate::step::{Reply, make_step};
 use lg_base::NoMemory;
 use std::alloc::Global;
 
+/// The most entries of a journal.
+const MAX_ENTRIES: usize = 200_000;
+
+/// The most bytes of payload of a journal, in sum.
+const MAX_BYTES: u64 = 268_435_456;
+
 /// The scheduler of one thread, with its journal.
 #[derive(Debug, Drop)]
 pub struct Life {
@@ -19,9 +25,12 @@ pub struct Life {
     pub state: State,
     /// The calls, in order.
     pub journal: Journal,
-    /// Whether the journal is over.
-    over: bool,
-    pub ghost is_marked: { over ≡ is_over journal },
+    /// Whether the journal holds a `stop`.
+    stopped: bool,
+    /// The bytes of the payloads in sum; 2^64 - 1 where there are more.
+    bytes: u64,
+    pub ghost is_marked: { stopped ≡ has_stop journal },
+    pub ghost is_counted: { bytes ≡ min (payload_bytes journal) (2 ^ 64 - 1) },
 }
 
 impl Life {
@@ -33,15 +42,30 @@ impl Life {
         Life {
             state: base,
             journal: Journal::new(alloc),
-            over: false,
+            stopped: false,
+            bytes: 0,
         }
     }
 
-    /// Whether the journal is over: it holds a `stop`.
+    /// Whether the journal holds a `stop`.
+    pub fn is_stopped(&self) -> bool
+        ensures { result ≡ has_stop self.now.journal }
+    {
+        self.stopped
+    }
+
+    /// Whether the journal is over: it holds a `stop`, or has its most entries or its most bytes.
     pub fn is_over(&self) -> bool
         ensures { result ≡ is_over self.now.journal }
     {
-        self.over
+        self.stopped || self.is_full()
+    }
+
+    /// Whether the journal has its most entries or its most bytes.
+    fn is_full(&self) -> bool
+        ensures { result ≡ is_full self.now.journal }
+    {
+        self.journal.len() >= MAX_ENTRIES || self.bytes >= MAX_BYTES
     }
 
     /// The journal, at the end of the life.
@@ -51,7 +75,8 @@ impl Life {
         let Life {
             state: _,
             journal,
-            over: _,
+            stopped: _,
+            bytes: _,
         } = self;
         journal
     }
@@ -69,6 +94,7 @@ impl Life {
     {
         let now = entry.now;
         let stops = entry.request.is_stop();
+        let size = u64::from(entry.who.size);
         self.journal.enter(entry)?;
         let newest = self.journal.len() - 1;
         match make_step(
@@ -77,7 +103,8 @@ impl Life {
             &self.journal.entries()[newest].request,
         ) {
             Ok(reply) => {
-                self.over = self.over || stops;
+                self.stopped = self.stopped || stops;
+                self.bytes = self.bytes.saturating_add(size);
                 Ok(reply)
             }
             Err(NoMemory) => {

@@ -15,6 +15,7 @@ use std::test::Fail;
 
 mod calls;
 mod ends;
+mod links;
 mod refusals;
 
 /// A call that sets a limit, and a stop.
@@ -31,13 +32,14 @@ const TWO_RESPONSES: &[u8] =
 /// Where the second response begins.
 const NULL_AT: usize = 88;
 
-/// What the outside does: the input of the one link that comes, if one comes; how many bytes a read gives and a write
-/// takes at most; and which calls fail, by their numbers.
+/// What the outside does: the inputs of the links that come; how many bytes a read gives and a write takes at most; and
+/// which calls fail, by their numbers, those of one link among them.
 #[derive(Clone, Copy)]
-struct Script<'a> {
-    words: &'a [&'a str],
-    input: Option<&'a [u8]>,
+struct Script<'a, 'b> {
+    words: &'static [&'static str],
+    inputs: &'a [&'b [u8]],
     most: usize,
+    faulty: usize,
     read: Option<u64>,
     write: Option<u64>,
     accept: Option<u64>,
@@ -45,10 +47,11 @@ struct Script<'a> {
 }
 
 /// Whole reads and writes, and no fault.
-const PLAIN: Script<'static> = Script {
+const PLAIN: Script<'static, 'static> = Script {
     words: &["--stdio"],
-    input: None,
+    inputs: &[],
     most: 4096,
+    faulty: 0,
     read: None,
     write: None,
     accept: None,
@@ -65,11 +68,9 @@ struct Ran {
 }
 
 impl Ran {
-    /// What was written to the one link.
-    fn output(&self) -> Result<&[u8], Fail> {
-        let door = self.doors.first().ok_or("a door")?;
-        let link = door.ended().first().ok_or("a link")?;
-        Ok(link.sink.bytes())
+    /// The links that were handed back.
+    fn links(&self) -> Result<&[MemoryLink<FaultList>], Fail> {
+        Ok(self.doors.first().ok_or("a door")?.ended())
     }
 
     /// The one life.
@@ -82,25 +83,31 @@ fn plan(alloc: Global, failing: Option<u64>) -> Result<FaultList, Fail> {
     Ok(FaultList::new(failing.into_iter().collect(alloc)?))
 }
 
-/// A link with this input. Its first read is quiet.
+/// The link of that number. Its first read is quiet.
 fn link_of(
     alloc: Global,
-    script: &Script<'_>,
+    script: &Script<'_, '_>,
+    number: usize,
     input: &[u8],
 ) -> Result<MemoryLink<FaultList>, Fail> {
     let mut turns = vec![in alloc; Turn::Quiet]?;
-    for _ in input {
+    for _ in 0..=input.len() / script.most.max(1) {
         turns.push(Turn::Piece(script.most))?;
     }
-    let source = MemorySource::new(input.to_vec(alloc)?, turns, plan(alloc, script.read)?);
-    let sink = MemorySink::new(alloc, script.most, plan(alloc, script.write)?);
+    let (read, write) = if number == script.faulty {
+        (script.read, script.write)
+    } else {
+        (None, None)
+    };
+    let source = MemorySource::new(input.to_vec(alloc)?, turns, plan(alloc, read)?);
+    let sink = MemorySink::new(alloc, script.most, plan(alloc, write)?);
     Ok(MemoryLink { source, sink })
 }
 
-fn door_of(alloc: Global, script: &Script<'_>) -> Result<MemoryDoor<FaultList>, Fail> {
+fn door_of(alloc: Global, script: &Script<'_, '_>) -> Result<MemoryDoor<FaultList>, Fail> {
     let mut visits = Vec::new(alloc);
-    if let Some(input) = script.input {
-        visits.push(Visit::Conn(link_of(alloc, script, input)?))?;
+    for (number, input) in script.inputs.iter().enumerate() {
+        visits.push(Visit::Conn(link_of(alloc, script, number, input)?))?;
     }
     let clock = MemoryClock::new(alloc, [Moment(5)].to_vec(alloc)?, 4)?;
     Ok(MemoryDoor::new(alloc, visits, clock, plan(alloc, script.accept)?))
@@ -110,7 +117,7 @@ fn door_of(alloc: Global, script: &Script<'_>) -> Result<MemoryDoor<FaultList>, 
 fn status_of<R: Wait, U: Audit>(
     rt: &R,
     alloc: Global,
-    script: &Script<'_>,
+    script: &Script<'_, '_>,
     doors: &mut Vec<MemoryDoor<FaultList>>,
     audit: &mut U,
     said: &mut MemorySink<NoFaults>,
@@ -141,7 +148,7 @@ fn status_of<R: Wait, U: Audit>(
 }
 
 /// Runs the daemon on a script.
-fn run_of<R: Wait>(rt: &R, alloc: Global, script: &Script<'_>) -> Result<Ran, Fail> {
+fn run_of<R: Wait>(rt: &R, alloc: Global, script: &Script<'_, '_>) -> Result<Ran, Fail> {
     let mut doors = Vec::new(alloc);
     let mut audit = MemoryAudit::new(alloc);
     let mut said = MemorySink::new(alloc, 4096, NoFaults);
@@ -154,23 +161,38 @@ fn run_of<R: Wait>(rt: &R, alloc: Global, script: &Script<'_>) -> Result<Ran, Fa
     })
 }
 
-/// Runs the daemon on a script with this input, and compares what it wrote, how many calls it entered and how its life
-/// ended.
+/// Runs the daemon on a script, and compares what it wrote to each link, how many calls it entered and how its life
+/// ended. The status is 0.
 fn assert_served<R: Wait + Abort>(
     rt: &R,
     alloc: Global,
-    script: &Script<'_>,
-    output: &[u8],
+    script: &Script<'_, '_>,
+    outputs: &[&[u8]],
     calls: usize,
     end: LifeEnd,
 ) -> Result<(), Fail> {
     let ran = run_of(rt, alloc, script)?;
-    assert_eq!(rt; ran.output()?, output);
-    assert_eq!(rt; ran.audit.lives().len(), 1);
-    let (journal, ended) = ran.audit.lives()[0].end.as_ref().ok_or("an end")?;
-    assert_eq!(rt; journal.len(), calls);
-    assert_eq!(rt; *ended, end);
     assert_eq!(rt; ran.status, 0);
     assert!(rt; ran.said.bytes().is_empty());
+    assert_ended(rt, &ran, outputs, calls, end)
+}
+
+/// Compares what a run wrote to each link, how many calls it entered and how its life ended.
+fn assert_ended<A: Abort>(
+    rt: &A,
+    ran: &Ran,
+    outputs: &[&[u8]],
+    calls: usize,
+    end: LifeEnd,
+) -> Result<(), Fail> {
+    let links = ran.links()?;
+    assert_eq!(rt; links.len(), outputs.len());
+    for (link, output) in links.iter().zip(outputs) {
+        assert_eq!(rt; link.sink.bytes(), *output);
+    }
+    assert_eq!(rt; ran.audit.lives().len(), 1);
+    let (journal, ended) = ran.life()?.end.as_ref().ok_or("an end")?;
+    assert_eq!(rt; journal.len(), calls);
+    assert_eq!(rt; *ended, end);
     Ok(())
 }

@@ -63,6 +63,7 @@ fn end_of_line(end: LifeEnd) -> &'static str
 {
     match end {
         LifeEnd::Stop => " stop\n",
+        LifeEnd::Full => " full\n",
         LifeEnd::Closed => " closed\n",
         LifeEnd::Doors => " doors\n",
         LifeEnd::Memory => " memory\n",

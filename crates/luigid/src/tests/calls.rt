@@ -8,10 +8,10 @@ use std::test::Fail;
 #[test]
 fn two_calls_are_answered_and_entered(rt: HostRuntime) -> Result<(), Fail> {
     let script = Script {
-        input: Some(TWO_CALLS),
+        inputs: &[TWO_CALLS],
         ..PLAIN
     };
-    assert_served(&rt, rt.alloc(), &script, TWO_RESPONSES, 2, LifeEnd::Stop)?;
+    assert_served(&rt, rt.alloc(), &script, &[TWO_RESPONSES], 2, LifeEnd::Stop)?;
     let ran = run_of(&rt, rt.alloc(), &script)?;
     let (journal, _) = ran.life()?.end.as_ref().ok_or("an end")?;
     for entry in journal.entries() {
@@ -35,11 +35,11 @@ fn two_calls_are_answered_and_entered(rt: HostRuntime) -> Result<(), Fail> {
 fn cuts_of_the_input_change_nothing(rt: HostRuntime) -> Result<(), Fail> {
     for most in 1..=TWO_CALLS.len() {
         let script = Script {
-            input: Some(TWO_CALLS),
+            inputs: &[TWO_CALLS],
             most,
             ..PLAIN
         };
-        assert_served(&rt, rt.alloc(), &script, TWO_RESPONSES, 2, LifeEnd::Stop)?;
+        assert_served(&rt, rt.alloc(), &script, &[TWO_RESPONSES], 2, LifeEnd::Stop)?;
     }
     Ok(())
 }
@@ -48,7 +48,7 @@ fn cuts_of_the_input_change_nothing(rt: HostRuntime) -> Result<(), Fail> {
 fn a_failed_read_leaves_what_was_answered(rt: HostRuntime) -> Result<(), Fail> {
     for read in 0..=TWO_CALLS.len() {
         let script = Script {
-            input: Some(TWO_CALLS),
+            inputs: &[TWO_CALLS],
             most: 1,
             read: Some(read as u64),
             ..PLAIN
@@ -59,7 +59,7 @@ fn a_failed_read_leaves_what_was_answered(rt: HostRuntime) -> Result<(), Fail> {
             (1, NULL_AT)
         };
         let output = &TWO_RESPONSES[..answered];
-        assert_served(&rt, rt.alloc(), &script, output, calls, LifeEnd::Closed)?;
+        assert_served(&rt, rt.alloc(), &script, &[output], calls, LifeEnd::Closed)?;
     }
     Ok(())
 }
@@ -68,7 +68,7 @@ fn a_failed_read_leaves_what_was_answered(rt: HostRuntime) -> Result<(), Fail> {
 fn a_failed_write_leaves_a_front(rt: HostRuntime) -> Result<(), Fail> {
     for write in 0..TWO_RESPONSES.len() {
         let script = Script {
-            input: Some(TWO_CALLS),
+            inputs: &[TWO_CALLS],
             most: 1,
             write: Some(write as u64),
             ..PLAIN
@@ -79,7 +79,7 @@ fn a_failed_write_leaves_a_front(rt: HostRuntime) -> Result<(), Fail> {
         } else {
             (2, LifeEnd::Stop)
         };
-        assert_served(&rt, rt.alloc(), &script, output, calls, end)?;
+        assert_served(&rt, rt.alloc(), &script, &[output], calls, end)?;
     }
     Ok(())
 }

@@ -30,7 +30,7 @@ impl Audit for FullAudit {
 fn assert_ends<R: Wait + Abort>(
     rt: &R,
     alloc: Global,
-    script: &Script<'_>,
+    script: &Script<'_, '_>,
     status: u8,
     line: &[u8],
     lives: usize,
@@ -96,7 +96,7 @@ fn a_line_tells_of_each_life(rt: HostRuntime) -> Result<(), Fail> {
     let mut said = MemorySink::new(rt.alloc(), 4096, NoFaults);
     for script in [
         Script {
-            input: Some(TWO_CALLS),
+            inputs: &[TWO_CALLS],
             ..PLAIN
         },
         PLAIN,

@@ -7,9 +7,9 @@ use std::sync::Wait;
 use std::test::Fail;
 
 /// The stop alone, and its response.
-const STOP: &[u8] = b"POST /api/stop HTTP/1.1\r\nHost: x\r\nContent-Length: 0\r\n\r\n";
+pub(super) const STOP: &[u8] = b"POST /api/stop HTTP/1.1\r\nHost: x\r\nContent-Length: 0\r\n\r\n";
 
-const STOPPED: &[u8] =
+pub(super) const STOPPED: &[u8] =
     b"HTTP/1.1 200 OK\r\nContent-Type: application/json\r\nContent-Length: 17\r\nConnection: close\r\n\r\n{\"response\":null}";
 
 /// A method that nobody knows, one that isn't built, a payload that is no JSON; and then the two calls.
@@ -35,10 +35,10 @@ fn what_is_no_message_ends_the_connection(rt: HostRuntime) -> Result<(), Fail> {
     ];
     for input in bad {
         let script = Script {
-            input: Some(input),
+            inputs: &[input],
             ..PLAIN
         };
-        assert_served(&rt, rt.alloc(), &script, BAD_MESSAGE, 0, LifeEnd::Closed)?;
+        assert_served(&rt, rt.alloc(), &script, &[BAD_MESSAGE], 0, LifeEnd::Closed)?;
     }
     Ok(())
 }
@@ -47,11 +47,18 @@ fn what_is_no_message_ends_the_connection(rt: HostRuntime) -> Result<(), Fail> {
 fn refused_messages_leave_the_connection(rt: HostRuntime) -> Result<(), Fail> {
     for most in 1..=FIVE_MESSAGES.len() {
         let script = Script {
-            input: Some(FIVE_MESSAGES),
+            inputs: &[FIVE_MESSAGES],
             most,
             ..PLAIN
         };
-        assert_served(&rt, rt.alloc(), &script, FIVE_RESPONSES, 2, LifeEnd::Stop)?;
+        assert_served(
+            &rt,
+            rt.alloc(),
+            &script,
+            &[FIVE_RESPONSES],
+            2,
+            LifeEnd::Stop,
+        )?;
     }
     Ok(())
 }
@@ -100,149 +107,160 @@ fn assert_answered<R: Wait + Abort>(
     let mut output = response.to_vec(alloc)?;
     output.extend_from_slice(STOPPED)?;
     let script = Script {
-        input: Some(&input),
+        inputs: &[input.as_slice()],
         ..PLAIN
     };
-    assert_served(rt, alloc, &script, &output, calls, LifeEnd::Stop)
+    assert_served(
+        rt,
+        alloc,
+        &script,
+        &[output.as_slice()],
+        calls,
+        LifeEnd::Stop,
+    )
 }
+
+/// Messages that make no call, with their responses.
+const REFUSED: [(&[u8], &[u8]); 24] = [
+    (
+        b"PUT /api/stop HTTP/1.1\r\nHost: x\r\nContent-Length: 0\r\n\r\n",
+        BAD_VERB,
+    ),
+    (
+        b"post /api/stop HTTP/1.1\r\nHost: x\r\nContent-Length: 0\r\n\r\n",
+        BAD_VERB,
+    ),
+    (
+        b"PUT /nope HTTP/1.1\r\nHost: x\r\nContent-Length: 0\r\n\r\n",
+        BAD_VERB,
+    ),
+    (
+        b"POST /stop HTTP/1.1\r\nHost: x\r\nContent-Length: 0\r\n\r\n",
+        UNKNOWN_PATH,
+    ),
+    (
+        b"POST /api HTTP/1.1\r\nHost: x\r\nContent-Length: 0\r\n\r\n",
+        UNKNOWN_PATH,
+    ),
+    (
+        b"POST /API/stop HTTP/1.1\r\nHost: x\r\nContent-Length: 6\r\n\r\ndata=x",
+        UNKNOWN_PATH,
+    ),
+    (
+        b"POST /api/ HTTP/1.1\r\nHost: x\r\nContent-Length: 0\r\n\r\n",
+        UNKNOWN_METHOD,
+    ),
+    (
+        b"POST /api/stop/ HTTP/1.1\r\nHost: x\r\nContent-Length: 0\r\n\r\n",
+        UNKNOWN_METHOD,
+    ),
+    (
+        b"POST /api/%73top HTTP/1.1\r\nHost: x\r\nContent-Length: 0\r\n\r\n",
+        UNKNOWN_METHOD,
+    ),
+    (
+        b"POST /api/nope HTTP/1.1\r\nHost: x\r\nContent-Length: 6\r\n\r\ndata=x",
+        UNKNOWN_METHOD,
+    ),
+    (
+        b"POST /api/add_task HTTP/1.1\r\nHost: x\r\nContent-Length: 6\r\n\r\ndata=x",
+        NOT_BUILT,
+    ),
+    (
+        b"POST /api/worker_list HTTP/1.1\r\nHost: x\r\nContent-Length: 0\r\n\r\n",
+        NOT_BUILT,
+    ),
+    (
+        b"POST /api/stop HTTP/1.1\r\nHost: x\r\nContent-Length: 7\r\n\r\ndata=[]",
+        BAD_JSON,
+    ),
+    (
+        b"POST /api/stop HTTP/1.1\r\nHost: x\r\nContent-Length: 6\r\n\r\ndata={",
+        BAD_JSON,
+    ),
+    (
+        b"POST /api/stop HTTP/1.1\r\nHost: x\r\nContent-Length: 4\r\n\r\ndata",
+        BAD_JSON,
+    ),
+    (
+        b"POST /api/stop?data={} HTTP/1.1\r\nHost: x\r\nContent-Length: 6\r\n\r\ndata=1",
+        BAD_JSON,
+    ),
+    (
+        b"POST /api/update_resource HTTP/1.1\r\nHost: x\r\nContent-Length: 0\r\n\r\n",
+        MISSING_RESOURCE,
+    ),
+    (
+        b"POST /api/update_resource HTTP/1.1\r\nHost: x\r\nContent-Length: 35\r\n\r\ndata={\"resource\":null,\"amount\":\"x\"}",
+        MISSING_RESOURCE,
+    ),
+    (
+        b"POST /api/update_resource HTTP/1.1\r\nHost: x\r\nContent-Length: 32\r\n\r\ndata={\"resource\":1,\"amount\":\"x\"}",
+        WRONG_KIND_RESOURCE,
+    ),
+    (
+        b"POST /api/update_resource HTTP/1.1\r\nHost: x\r\nContent-Length: 23\r\n\r\ndata={\"resource\":\"gpu\"}",
+        MISSING_AMOUNT,
+    ),
+    (
+        b"POST /api/update_resource HTTP/1.1\r\nHost: x\r\nContent-Length: 36\r\n\r\ndata={\"resource\":\"gpu\",\"amount\":\"2\"}",
+        WRONG_KIND_AMOUNT,
+    ),
+    (
+        b"POST /api/update_resource HTTP/1.1\r\nHost: x\r\nContent-Length: 36\r\n\r\ndata={\"resource\":\"gpu\",\"amount\":2.0}",
+        WRONG_KIND_AMOUNT,
+    ),
+    (
+        b"POST /api/update_resource HTTP/1.1\r\nHost: x\r\nContent-Length: 43\r\n\r\ndata={\"resource\":\"gpu\",\"amount\":4294967296}",
+        OUT_OF_RANGE_AMOUNT,
+    ),
+    (
+        b"POST /api/update_resource HTTP/1.1\r\nHost: x\r\nContent-Length: 52\r\n\r\ndata={\"resource\":\"gpu\",\"amount\":9223372036854775808}",
+        OUT_OF_RANGE_AMOUNT,
+    ),
+];
 
 #[test]
 fn each_refusal_has_its_response(rt: HostRuntime) -> Result<(), Fail> {
-    let refused: [(&[u8], &[u8]); 24] = [
-        (
-            b"PUT /api/stop HTTP/1.1\r\nHost: x\r\nContent-Length: 0\r\n\r\n",
-            BAD_VERB,
-        ),
-        (
-            b"post /api/stop HTTP/1.1\r\nHost: x\r\nContent-Length: 0\r\n\r\n",
-            BAD_VERB,
-        ),
-        (
-            b"PUT /nope HTTP/1.1\r\nHost: x\r\nContent-Length: 0\r\n\r\n",
-            BAD_VERB,
-        ),
-        (
-            b"POST /stop HTTP/1.1\r\nHost: x\r\nContent-Length: 0\r\n\r\n",
-            UNKNOWN_PATH,
-        ),
-        (
-            b"POST /api HTTP/1.1\r\nHost: x\r\nContent-Length: 0\r\n\r\n",
-            UNKNOWN_PATH,
-        ),
-        (
-            b"POST /API/stop HTTP/1.1\r\nHost: x\r\nContent-Length: 6\r\n\r\ndata=x",
-            UNKNOWN_PATH,
-        ),
-        (
-            b"POST /api/ HTTP/1.1\r\nHost: x\r\nContent-Length: 0\r\n\r\n",
-            UNKNOWN_METHOD,
-        ),
-        (
-            b"POST /api/stop/ HTTP/1.1\r\nHost: x\r\nContent-Length: 0\r\n\r\n",
-            UNKNOWN_METHOD,
-        ),
-        (
-            b"POST /api/%73top HTTP/1.1\r\nHost: x\r\nContent-Length: 0\r\n\r\n",
-            UNKNOWN_METHOD,
-        ),
-        (
-            b"POST /api/nope HTTP/1.1\r\nHost: x\r\nContent-Length: 6\r\n\r\ndata=x",
-            UNKNOWN_METHOD,
-        ),
-        (
-            b"POST /api/add_task HTTP/1.1\r\nHost: x\r\nContent-Length: 6\r\n\r\ndata=x",
-            NOT_BUILT,
-        ),
-        (
-            b"POST /api/worker_list HTTP/1.1\r\nHost: x\r\nContent-Length: 0\r\n\r\n",
-            NOT_BUILT,
-        ),
-        (
-            b"POST /api/stop HTTP/1.1\r\nHost: x\r\nContent-Length: 7\r\n\r\ndata=[]",
-            BAD_JSON,
-        ),
-        (
-            b"POST /api/stop HTTP/1.1\r\nHost: x\r\nContent-Length: 6\r\n\r\ndata={",
-            BAD_JSON,
-        ),
-        (
-            b"POST /api/stop HTTP/1.1\r\nHost: x\r\nContent-Length: 4\r\n\r\ndata",
-            BAD_JSON,
-        ),
-        (
-            b"POST /api/stop?data={} HTTP/1.1\r\nHost: x\r\nContent-Length: 6\r\n\r\ndata=1",
-            BAD_JSON,
-        ),
-        (
-            b"POST /api/update_resource HTTP/1.1\r\nHost: x\r\nContent-Length: 0\r\n\r\n",
-            MISSING_RESOURCE,
-        ),
-        (
-            b"POST /api/update_resource HTTP/1.1\r\nHost: x\r\nContent-Length: 35\r\n\r\ndata={\"resource\":null,\"amount\":\"x\"}",
-            MISSING_RESOURCE,
-        ),
-        (
-            b"POST /api/update_resource HTTP/1.1\r\nHost: x\r\nContent-Length: 32\r\n\r\ndata={\"resource\":1,\"amount\":\"x\"}",
-            WRONG_KIND_RESOURCE,
-        ),
-        (
-            b"POST /api/update_resource HTTP/1.1\r\nHost: x\r\nContent-Length: 23\r\n\r\ndata={\"resource\":\"gpu\"}",
-            MISSING_AMOUNT,
-        ),
-        (
-            b"POST /api/update_resource HTTP/1.1\r\nHost: x\r\nContent-Length: 36\r\n\r\ndata={\"resource\":\"gpu\",\"amount\":\"2\"}",
-            WRONG_KIND_AMOUNT,
-        ),
-        (
-            b"POST /api/update_resource HTTP/1.1\r\nHost: x\r\nContent-Length: 36\r\n\r\ndata={\"resource\":\"gpu\",\"amount\":2.0}",
-            WRONG_KIND_AMOUNT,
-        ),
-        (
-            b"POST /api/update_resource HTTP/1.1\r\nHost: x\r\nContent-Length: 43\r\n\r\ndata={\"resource\":\"gpu\",\"amount\":4294967296}",
-            OUT_OF_RANGE_AMOUNT,
-        ),
-        (
-            b"POST /api/update_resource HTTP/1.1\r\nHost: x\r\nContent-Length: 52\r\n\r\ndata={\"resource\":\"gpu\",\"amount\":9223372036854775808}",
-            OUT_OF_RANGE_AMOUNT,
-        ),
-    ];
-    for (message, response) in refused {
+    for (message, response) in REFUSED {
         assert_answered(&rt, rt.alloc(), message, response, 1)?;
     }
     Ok(())
 }
 
-const ANSWERED_TRUE: &[u8] =
+pub(super) const ANSWERED_TRUE: &[u8] =
     b"HTTP/1.1 200 OK\r\nContent-Type: application/json\r\nContent-Length: 17\r\n\r\n{\"response\":true}";
 
 const ANSWERED_FALSE: &[u8] =
     b"HTTP/1.1 200 OK\r\nContent-Type: application/json\r\nContent-Length: 18\r\n\r\n{\"response\":false}";
 
+/// Calls with amounts at the ends of their range, with their responses.
+const ANSWERED: [(&[u8], &[u8]); 5] = [
+    (
+        b"POST /api/update_resource HTTP/1.1\r\nHost: x\r\nContent-Length: 35\r\n\r\ndata={\"resource\":\"gpu\",\"amount\":-1}",
+        ANSWERED_FALSE,
+    ),
+    (
+        b"POST /api/update_resource HTTP/1.1\r\nHost: x\r\nContent-Length: 53\r\n\r\ndata={\"resource\":\"gpu\",\"amount\":-9223372036854775808}",
+        ANSWERED_FALSE,
+    ),
+    (
+        b"POST /api/update_resource HTTP/1.1\r\nHost: x\r\nContent-Length: 34\r\n\r\ndata={\"resource\":\"gpu\",\"amount\":0}",
+        ANSWERED_TRUE,
+    ),
+    (
+        b"POST /api/update_resource HTTP/1.1\r\nHost: x\r\nContent-Length: 43\r\n\r\ndata={\"resource\":\"gpu\",\"amount\":4294967295}",
+        ANSWERED_TRUE,
+    ),
+    (
+        b"POST /api/update_resource?data={\"resource\":1} HTTP/1.1\r\nHost: x\r\nContent-Length: 34\r\n\r\ndata={\"resource\":\"gpu\",\"amount\":2}",
+        ANSWERED_TRUE,
+    ),
+];
+
 #[test]
 fn an_amount_below_0_is_answered_false(rt: HostRuntime) -> Result<(), Fail> {
-    let answered: [(&[u8], &[u8]); 5] = [
-        (
-            b"POST /api/update_resource HTTP/1.1\r\nHost: x\r\nContent-Length: 35\r\n\r\ndata={\"resource\":\"gpu\",\"amount\":-1}",
-            ANSWERED_FALSE,
-        ),
-        (
-            b"POST /api/update_resource HTTP/1.1\r\nHost: x\r\nContent-Length: 53\r\n\r\ndata={\"resource\":\"gpu\",\"amount\":-9223372036854775808}",
-            ANSWERED_FALSE,
-        ),
-        (
-            b"POST /api/update_resource HTTP/1.1\r\nHost: x\r\nContent-Length: 34\r\n\r\ndata={\"resource\":\"gpu\",\"amount\":0}",
-            ANSWERED_TRUE,
-        ),
-        (
-            b"POST /api/update_resource HTTP/1.1\r\nHost: x\r\nContent-Length: 43\r\n\r\ndata={\"resource\":\"gpu\",\"amount\":4294967295}",
-            ANSWERED_TRUE,
-        ),
-        (
-            b"POST /api/update_resource?data={\"resource\":1} HTTP/1.1\r\nHost: x\r\nContent-Length: 34\r\n\r\ndata={\"resource\":\"gpu\",\"amount\":2}",
-            ANSWERED_TRUE,
-        ),
-    ];
-    for (message, response) in answered {
+    for (message, response) in ANSWERED {
         assert_answered(&rt, rt.alloc(), message, response, 2)?;
     }
     Ok(())
