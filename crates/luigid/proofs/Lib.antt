@@ -11,3 +11,4 @@ pub mod Lanes
 pub mod Writings
 pub mod Audits
 pub mod Runs
+pub mod Consequences

@@ -10,6 +10,7 @@ pub mod handle;
 pub mod hearing;
 pub mod journal;
 pub mod lane;
+pub mod laws;
 pub mod life;
 pub mod method;
 pub mod payload;
