@@ -12,7 +12,7 @@ use Rattle.luigid.specs.declared.state.State.{State}
 use Rattle.luigid.specs.Audit.{LifeTold, EndsLife}
 use Rattle.luigid.specs.State.{empty_state}
 use Rattle.luigid.proofs.Audits.{told_whole}
-use Rattle.luigid.specs.Headline.{HasLane, DoorSeen, Outside, IsRun, IsLine, IsServedLife, ServedLife, HasBinding, exit_of, the_bind}
+use Rattle.luigid.specs.Headline.{EndsBy, HasLane, DoorSeen, Outside, IsRun, IsLine, IsServedLife, ServedLife, HasBinding, exit_of, the_bind}
 
 -- a list of one item
 pub only_item : {A : Type 0} (xs : List A) (d : A) → 1 ≤ length xs → length xs < 2 → xs ≡ get_or xs 0 d ∷ []
@@ -58,9 +58,10 @@ run_served words before after door life exit line told no_fault one_door served 
 pub served_life : (base : State) (journal handed : List Entry) (end : LifeEnd) (door : DoorSeen) (before during after : Option (List LifeTold))
     → base ≡ empty_state → handed ≡ journal
     → TellsOn before during (record { base = base; end = None } ∷ []) → EndsLife handed end during after
-    → HasLane base 0 end journal door.door door.calls
+    → EndsBy end journal → HasLane base 0 end journal door.door door.calls
     → IsServedLife before after door (record { journal = handed; end = end })
-served_life base journal handed end door before during after base_is handed_is begun ended lane = record {
+served_life base journal handed end door before during after base_is handed_is begun ended ends lane = record {
   audited = subst (λ state. TellsOn before after (record { base = state; end = Some (handed, end) } ∷ [])) base_is (told_whole base handed end before during after begun ended);
+  ends = rw handed_is ends;
   lane = rw (← base_is, handed_is) lane;
 }

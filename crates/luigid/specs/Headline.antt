@@ -43,19 +43,26 @@ IsLine words = words ≡ codes "--stdio" ∷ []
 abbrev pub the_bind : BindCall
 the_bind = record { address = codes "0.0.0.0"; port = 8082; doors = 1 }
 
--- The cause of each end of a life: the journal holds a stop; else it is full; else the door's last answer.
-abbrev pub HasEnd : LifeEnd → List Entry → DoorTold → Type 0
-HasEnd Stop journal door = has_stop journal ≡ true
-HasEnd Full journal door = (has_stop journal ≡ false) × (is_full journal ≡ true)
-HasEnd Closed journal door = (is_over journal ≡ false) × (door.last ≡ Some closed)
-HasEnd Doors journal door = (is_over journal ≡ false) × (door.last ≡ Some failed)
-HasEnd Memory journal door = (is_over journal ≡ false) × (door.last ≡ Some no_memory)
+-- What the journal says of each end of a life: it holds a stop; else it is full; else it isn't over.
+abbrev pub EndsBy : LifeEnd → List Entry → Type 0
+EndsBy Stop journal = has_stop journal ≡ true
+EndsBy Full journal = (has_stop journal ≡ false) × (is_full journal ≡ true)
+EndsBy Closed journal = is_over journal ≡ false
+EndsBy Doors journal = is_over journal ≡ false
+EndsBy Memory journal = is_over journal ≡ false
 
--- A life over one door was served: where the door tells, its connections are served as they are to be, and the life
--- ended for a cause.
+-- what the door's last answer says of it, where the journal isn't over
+abbrev pub HasLast : LifeEnd → DoorTold → Type 0
+HasLast Stop door = Unit {0}
+HasLast Full door = Unit {0}
+HasLast Closed door = door.last ≡ Some closed
+HasLast Doors door = door.last ≡ Some failed
+HasLast Memory door = door.last ≡ Some no_memory
+
+-- Where the door tells, its connections are served as they are to be, and its last answer is the cause of the end.
 abbrev pub HasLane : State → ℕ → LifeEnd → List Entry → Option DoorTold → Option (List ClockCall) → Type 0
 HasLane base lane end journal door calls =
-    IfSome door (λ told. (sessions : List Session) × IsLane base journal lane told calls sessions × HasEnd end journal told)
+    IfSome door (λ told. (sessions : List Session) × IsLane base journal lane told calls sessions × HasLast end told)
 
 -- the program's end for a life's
 abbrev pub exit_of : LifeEnd → Exit
@@ -70,10 +77,11 @@ pub record ServedLife : Type 0 where
   pub journal : List Entry
   pub end : LifeEnd
 
--- A life was served over one door: the audit is told of it, with the empty state as its base; the door's connections are
--- served as they are to be; and it ended for a cause.
+-- A life was served over one door: the audit is told of it, with the empty state as its base; it ended for a cause; and
+-- the door's connections are served as they are to be.
 pub record IsServedLife (before after : Option (List LifeTold)) (door : DoorSeen) (life : ServedLife) : Type 0 where
   pub audited : TellsOn before after (record { base = empty_state; end = Some (life.journal, life.end) } ∷ [])
+  pub ends : EndsBy life.end life.journal
   pub lane : HasLane empty_state 0 life.end life.journal door.door door.calls
 
 -- One life was served, over the one door that was bound; and the program ended as the life did.

@@ -3,7 +3,7 @@ ghost use Rattle.std.specs.Prelude.{◌≡◌, ◌≢◌, [], All, option_map, I
 ghost use Rattle.lg_io.specs.declared.door.Accept.TheVariants.{Quiet};
 ghost use Rattle.lg_io.specs.Door.{accept_kind, accepted, unused_door, IfConn, IsFresh};
 ghost use Rattle.luigid.specs.Audit.{IsGoodEntry};
-ghost use Rattle.luigid.specs.Headline.{HasLane};
+ghost use Rattle.luigid.specs.Headline.{EndsBy, HasLane};
 ghost use Rattle.luigid.specs.Said.{AreTexts};
 ghost use Rattle.luigid.specs.State.{IsValidState};
 
@@ -31,6 +31,7 @@ pub fn serve_lane<R: Wait, D: Door>(
     ensures served { IfSome (D.door door.old) (λ told. told ≡ unused_door)
         → IfSome (D.calls door.old) (λ calls. calls ≡ [])
         → HasLane life.old.state lane result life.new.journal (D.door door.new) (D.calls door.new) }
+    ensures ends { EndsBy result life.new.journal }
     ensures good { All IsGoodEntry life.new.journal }
 {
     for connection in 0..u64::MAX {

@@ -11,5 +11,5 @@ returns-clause-ok g c =
     let lane = c.serve_lane-end.ensures.served c.requires.untouched.unused c.requires.untouched.uncalled in (
       c.into_journal.result,
       served_life c.begin-life.result.state _ _ _ _ _ _ _ (c.begin-life.ensures.state ∙ c.empty-base.ensures.empty) c.into_journal.ensures
-          (rw c.begin-life.ensures.state c.in_ok-begins.ensures.ok) c.ends.ensures lane,
+          (rw c.begin-life.ensures.state c.in_ok-begins.ensures.ok) c.ends.ensures c.serve_lane-end.ensures.ends lane,
     )
