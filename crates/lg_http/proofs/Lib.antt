@@ -3,7 +3,6 @@ pub mod HopeLemmas
 pub mod IncomingLemmas
 pub mod PieceLemmas
 pub mod Readings
-pub mod Sequence
 pub mod TargetLemmas
 pub mod TextLemmas
 pub mod WindowLemmas

@@ -4,7 +4,7 @@ ghost use Rattle.lg_io.specs.Cause.{HasCause};
 ghost use Rattle.lg_io.specs.Sink.{WritesAll};
 ghost use Rattle.lg_json.specs.Capped.{capped};
 ghost use Rattle.lg_json.specs.Tree.{tree_of};
-ghost use Rattle.lg_json.specs.Writes.{Writes};
+ghost use Rattle.lg_io.specs.Writes.{Writes};
 ghost use Rattle.lg_http.specs.Response.{IsStatus, reason_of, opening, closing, head_of, body_of, response_bytes};
 
 use lg_base::Failed;

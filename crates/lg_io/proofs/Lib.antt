@@ -1,4 +1,5 @@
 pub mod Writes
+pub mod Sequence
 pub mod FilesOf
 pub mod NoFields
 pub mod Grown

@@ -3,6 +3,7 @@ pub mod Cause
 pub mod Tells
 pub mod Source
 pub mod Sink
+pub mod Writes
 pub mod Clock
 pub mod Door
 pub mod Net

@@ -1,5 +1,4 @@
 mod Characters
 mod Commas
 mod Removal
-pub mod Sequence
 mod Trees

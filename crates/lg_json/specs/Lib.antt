@@ -3,4 +3,3 @@ pub mod Escapes
 pub mod Fields
 pub mod Text
 pub mod Tree
-pub mod Writes

@@ -3,7 +3,7 @@ ghost use Rattle.std.specs.Char.{digit_char};
 ghost use Rattle.lg_json.specs.Capped.{capped};
 ghost use Rattle.lg_json.specs.Escapes.{is_plain, letter_of, unit_escape, escape, escaped};
 ghost use Rattle.lg_json.specs.Text.{quoted};
-ghost use Rattle.lg_json.specs.Writes.{Writes};
+ghost use Rattle.lg_io.specs.Writes.{Writes};
 
 use lg_base::Failed;
 use lg_io::{Sink, write_all};

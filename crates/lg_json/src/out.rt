@@ -4,7 +4,7 @@ ghost use Rattle.lg_io.specs.Sink.{WritesAll};
 ghost use Rattle.lg_json.specs.Capped.{capped};
 ghost use Rattle.lg_json.specs.Text.{text_of, list_text, object_text, member_text};
 ghost use Rattle.lg_json.specs.Tree.{tree_of, trees_view, members_view};
-ghost use Rattle.lg_json.specs.Writes.{Writes};
+ghost use Rattle.lg_io.specs.Writes.{Writes};
 
 use crate::escapes::{emit_quoted, quoted_length};
 use lg_base::{Failed, Name, Text};

@@ -8,7 +8,6 @@ pub mod Hearings
 pub mod Sessions
 pub mod Servings
 pub mod Lanes
-pub mod Writings
 pub mod Audits
 pub mod Runs
 pub mod Consequences

@@ -1,7 +1,7 @@
 use Rattle.std.proofs.Common.{ℕ, ap}
 use Rattle.lg_json.specs.Tree.{tree_of}
 use Rattle.lg_http.specs.Response.{body_of, head_of}
-use Rattle.lg_http.proofs.Sequence.{Writes-cut, Writes-then, Writes-same}
+use Rattle.lg_io.proofs.Sequence.{Writes-cut, Writes-then, Writes-same}
 use Rattle.lg_http.proofs.response.respond.Goals as goal
 
 pub returns-in_err-write_head-clause-told : goal.returns-in_err-write_head-clause-told

@@ -1,7 +1,7 @@
 use Rattle.std.proofs.Common.{◌++◌, [], ◌∷◌}
 use Rattle.lg_json.specs.Text.{text_of}
 use Rattle.lg_json.specs.Tree.{tree_of}
-use Rattle.lg_http.proofs.Sequence.{Writes-cut, Writes-then, Writes-same}
+use Rattle.lg_io.proofs.Sequence.{Writes-cut, Writes-then, Writes-same}
 use Rattle.lg_http.proofs.response.write_body.Goals as goal
 
 pub returns-in_err-write_all : goal.returns-in_err-write_all

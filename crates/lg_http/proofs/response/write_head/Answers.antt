@@ -1,6 +1,6 @@
 use Rattle.std.proofs.Common.{◌∙◌}
 use Rattle.lg_http.proofs.PieceLemmas.{head_pieces}
-use Rattle.lg_http.proofs.Sequence.{Writes-same}
+use Rattle.lg_io.proofs.Sequence.{Writes-same}
 use Rattle.lg_http.proofs.response.write_head.Goals as goal
 
 pub returns : goal.returns

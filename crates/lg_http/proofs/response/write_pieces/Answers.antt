@@ -1,7 +1,7 @@
 use Rattle.std.proofs.Common.{suc, drop}
 use Rattle.std.specs.List.{flat_map}
 use Rattle.lg_http.proofs.PieceLemmas.{bytes_in, pieces_at}
-use Rattle.lg_http.proofs.Sequence.{Writes-cut, Writes-then, Writes-same}
+use Rattle.lg_io.proofs.Sequence.{Writes-cut, Writes-then, Writes-same}
 use Rattle.lg_http.proofs.response.write_pieces.Goals as goal
 
 pub returns-in_err-write_all : goal.returns-in_err-write_all

@@ -1,7 +1,7 @@
 use Rattle.std.proofs.Common.{take}
 use Rattle.std.specs.List.{flat_map}
-use Rattle.lg_json.specs.Writes.{Writes}
-use Rattle.lg_http.proofs.Sequence.{done}
+use Rattle.lg_io.specs.Writes.{Writes}
+use Rattle.lg_io.proofs.Sequence.{done}
 use Rattle.lg_http.proofs.response.write_pieces.Given as goal
 
 -- the pieces so far were written

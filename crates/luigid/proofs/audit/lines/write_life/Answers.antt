@@ -1,6 +1,6 @@
 use Rattle.std.proofs.Common.{codes}
 use Rattle.std.proofs.lemmas.Result.{err_from_is_err_and}
-use Rattle.luigid.proofs.Writings.{front_of_piece, front_behind, written_behind}
+use Rattle.lg_io.proofs.Sequence.{front_of_piece, front_behind, written_behind}
 use Rattle.luigid.proofs.audit.lines.write_life.Goals as goal
 
 pub returns-in_err-write_all-clause-told : goal.returns-in_err-write_all-clause-told
