@@ -37,6 +37,13 @@ impl<P: FaultPlan> MemorySink<P> {
         self.bytes.as_slice()
     }
 
+    /// The bytes that it took, to keep. It takes no memory.
+    pub fn into_bytes(self) -> Vec<u8>
+        ensures { ⟦<MemorySink<P> as Sink>⟧.taken self ≡ Some result.items }
+    {
+        self.bytes
+    }
+
     /// How many of its writes its plan made fail; those that found no memory aren't among them.
     pub fn planned_faults(&self) -> u64
         ensures { result ≡ P.faults self.now.plan }
