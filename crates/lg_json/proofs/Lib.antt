@@ -1,4 +1,6 @@
 mod Characters
 mod Commas
+mod PairTexts
+mod Printable
 mod Removal
 mod Trees

@@ -1,3 +1,4 @@
+pub mod Canonical
 pub mod Capped
 pub mod Escapes
 pub mod Fields

@@ -4,8 +4,12 @@
 mod escapes;
 mod fields;
 mod out;
+mod pairs;
+mod quoting;
 #[cfg(test)]
 mod tests;
 
 pub use fields::{Fields, TakeFault, WrongKind};
 pub use out::{Out, emit, length};
+pub use pairs::canonical;
+pub use quoting::quote;
