@@ -2,8 +2,9 @@ ghost use Rattle.std.specs.Prelude.{◌≡◌, ◌↔◌, List, ℕ, Option, IsT
 ghost use Rattle.std.specs.Ordering.{nat_cmp};
 ghost use Rattle.std.specs.Cmp.Lexicographic.{slice_cmp};
 ghost use Rattle.std.specs.List.Sorted.{IsSearchInRange, IsBinarySearchResult};
-ghost use Rattle.std.specs.FinMap.{empty, get, insert, entries};
+ghost use Rattle.std.specs.FinMap.{empty, get, insert, entries, from_sorted};
 ghost use Rattle.lg_base.specs.Amounts.{amount_of, limit_of, AnswersAs, Fits};
+ghost use Rattle.lg_base.specs.Names.{AreInOrder};
 
 use crate::faults::NoMemory;
 use crate::names::Name;
@@ -41,6 +42,14 @@ impl Amounts {
         Amounts {
             pairs: Vec::new(alloc),
         }
+    }
+
+    /// The amounts of pairs that stand in the order of their names' bytes, each name once. It takes no memory.
+    pub fn from_sorted(pairs: Vec<(Name, u32)>) -> Amounts
+        requires { AreInOrder pairs.items }
+        ensures { result ≡ from_sorted pairs.items }
+    {
+        Amounts { pairs }
     }
 
     /// Each name with its amount, in the order of the names' bytes.
