@@ -1,6 +1,9 @@
 mod Characters
 mod Commas
+mod InOrder
 mod PairTexts
 mod Printable
+mod Reading
 mod Removal
+mod Rooms
 mod Trees

@@ -1,17 +1,19 @@
 -- Members of an object after one is taken out.
-use Rattle.std.proofs.Common.{◌≡◌, ℕ, List, [], ◌∷◌, Some, None, Ordering, Less, Equal, Greater, is_eq, cond, refl, sym, ap, ◌∙◌}
+use Rattle.std.proofs.Common.{◌≡◌, ◌≢◌, ℕ, suc, List, [], ◌∷◌, Some, None, Ordering, Less, Equal, Greater, String, Global, string_cmp, is_eq, cond, refl, sym, ap, ◌∙◌, arith}
+use Rattle.std.proofs.lemmas.Cmp.{nat_list_cmp_total, tied_itself}
 use Rattle.std.proofs.lemmas.Map.Text.{is_eq-slice_cmp}
 use Rattle.std.proofs.lemmas.Slice.Eq.{bytes_eq-Decides}
 use Rattle.std.specs.BTreeMap.{is_at}
 use Rattle.std.specs.Cmp.Lexicographic.{slice_cmp}
-use Rattle.std.specs.Map.{remove_entry}
+use Rattle.std.specs.List.{All}
+use Rattle.std.specs.Map.{keys_of, remove_entry}
 use Rattle.std.specs.Ordering.{nat_cmp, match_ordering}
 use Rattle.std.specs.String.{string_bytes}
 use Rattle.serde_json.specs.Data.{Data, Members, no_members, member}
 use Rattle.serde_json.specs.Find.{get_member}
 use Rattle.serde_json.specs.View.{view, members_view}
 use Rattle.serde_json.proofs.Views.{Entry}
-use Rattle.lg_json.specs.Fields.{without}
+use Rattle.lg_json.specs.Fields.{without, IsTakenOut}
 
 -- the same text compares as equal, and no other one does
 same_name : (a b : List ℕ) → slice_cmp nat_cmp a b ≡ Equal → a ≡ b
@@ -60,3 +62,27 @@ pub members_view-remove_entry : (name : List ℕ) (es : List Entry) → get_memb
     → members_view (remove_entry (is_at (λ k. slice_cmp nat_cmp name (string_bytes k))) es) ≡ without name (members_view es)
 members_view-remove_entry name [] none = refl
 members_view-remove_entry name (e ∷ es) none = removed_at _ name e es _ refl none (members_view-remove_entry name es)
+
+-- the first member goes, and no later one has its name
+pub first_taken : (name : List ℕ) (d : Data) (ms : Members) → get_member name ms ≡ None → IsTakenOut name (member name d ms) ms
+first_taken name d ms none =
+    let itself : slice_cmp nat_cmp name name ≡ Equal = tied_itself nat_list_cmp_total name in
+    record {
+      same = sym (rw itself (without-absent name ms none));
+      gone = none;
+      others = λ other apart. sym (passes_over _ other name d ms refl apart);
+    }
+
+at_or_behind : (o : Ordering) (first name : List ℕ) (e : Entry) (ms : Members) → slice_cmp nat_cmp name (string_bytes e.0) ≡ o → slice_cmp nat_cmp first (string_bytes e.0) ≡ Less
+    → (get_member name ms ≢ None → slice_cmp nat_cmp first name ≡ Less)
+    → match_ordering o (get_member name ms) (Some (view e.1)) (get_member name ms) ≢ None → slice_cmp nat_cmp first name ≡ Less
+at_or_behind Less first name e ms is below behind there = behind there
+at_or_behind Equal first name e ms is below behind there = rw (same_name name (string_bytes e.0) is) below
+at_or_behind Greater first name e ms is below behind there = behind there
+
+-- what is below each key is below each name that is there
+pub below_names : (first : String Global) (es : List Entry) → All (λ k. string_cmp first k ≡ Less) (keys_of es) → (name : List ℕ) → get_member name (members_view es) ≢ None → slice_cmp nat_cmp (string_bytes first) name ≡ Less
+below_names first [] all name there = absurd (there refl)
+below_names first (e ∷ es) all name there =
+    let later : All (λ k. string_cmp first k ≡ Less) (keys_of es) = λ k d within. all (suc k) d (omega (arith, within)) in
+    at_or_behind _ (string_bytes first) name e (members_view es) refl (all 0 e.0 (omega arith)) (below_names first es later name) there

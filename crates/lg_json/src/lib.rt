@@ -3,11 +3,14 @@
 
 mod escapes;
 mod fields;
+pub mod laws;
+mod lists;
 mod out;
 mod pairs;
 mod quoting;
 #[cfg(test)]
 mod tests;
+mod values;
 
 pub use fields::{Fields, TakeFault, WrongKind};
 pub use out::{Out, emit, length};

@@ -1,4 +1,4 @@
-use crate::{Fields, Out, TakeFault, emit, length};
+use crate::{Fields, Out, TakeFault, canonical, emit, length, quote};
 use lg_base::{Name, Text};
 use lg_io::{FaultList, MemorySink, NoFaults};
 use serde_json::Value;
@@ -15,19 +15,21 @@ fn written(alloc: Global, tree: &Out) -> Result<Vec<u8>, Fail> {
     Ok(sink.bytes().to_vec(alloc)?)
 }
 
+/// Plain texts and what they are between quotes.
+const QUOTED: [(&str, &str); 8] = [
+    ("", "\"\""),
+    (" ~", "\" ~\""),
+    ("a\"b\\c/d", "\"a\\\"b\\\\c/d\""),
+    ("\n\r\t\u{8}\u{c}", "\"\\n\\r\\t\\b\\f\""),
+    ("\0\u{1f}\u{7f}", "\"\\u0000\\u001f\\u007f\""),
+    ("é\u{ffff}", "\"\\u00e9\\uffff\""),
+    ("😀", "\"\\ud83d\\ude00\""),
+    ("\u{10000}x\u{10ffff}", "\"\\ud800\\udc00x\\udbff\\udfff\""),
+];
+
 #[test]
 fn texts_are_printable_ascii(rt: HostRuntime) -> Result<(), Fail> {
-    let rows = [
-        ("", "\"\""),
-        (" ~", "\" ~\""),
-        ("a\"b\\c/d", "\"a\\\"b\\\\c/d\""),
-        ("\n\r\t\u{8}\u{c}", "\"\\n\\r\\t\\b\\f\""),
-        ("\0\u{1f}\u{7f}", "\"\\u0000\\u001f\\u007f\""),
-        ("é\u{ffff}", "\"\\u00e9\\uffff\""),
-        ("😀", "\"\\ud83d\\ude00\""),
-        ("\u{10000}x\u{10ffff}", "\"\\ud800\\udc00x\\udbff\\udfff\""),
-    ];
-    for (plain, expected) in rows {
+    for (plain, expected) in QUOTED {
         let tree = text(rt.alloc(), plain)?;
         assert_eq!(rt;
             written(rt.alloc(), &tree)?.as_slice(),
@@ -35,6 +37,51 @@ fn texts_are_printable_ascii(rt: HostRuntime) -> Result<(), Fail> {
             "{plain:?}"
         );
         assert_eq!(rt; length(&tree), expected.len() as u64, "{plain:?}");
+        assert_eq!(rt; quote(rt.alloc(), plain)?.as_str(), expected, "{plain:?}");
+    }
+    Ok(())
+}
+
+fn pair(alloc: Global, name: &str, value: &str) -> Result<(Name, Text), Fail> {
+    Ok((
+        Name::text(alloc, name.as_bytes())?,
+        Text::copied(alloc, value)?,
+    ))
+}
+
+#[test]
+fn canonical_texts_are_compact(rt: HostRuntime) -> Result<(), Fail> {
+    let alloc = rt.alloc();
+    let long = vec![in alloc;
+        pair(alloc, "a", "0123456789abcdef")?,
+        pair(alloc, "b", "0123456789abcdefg")?,
+        pair(alloc, "c", "x-😀")?,
+    ]?;
+    let significant = vec![in alloc;
+        pair(alloc, "a", "1")?,
+        pair(alloc, "c", "3")?,
+        pair(alloc, "d", "4")?,
+    ]?;
+    let rows = [
+        (Vec::new(alloc), "{}"),
+        (
+            long,
+            "{\"a\":\"0123456789abcdef\",\"b\":\"0123456789abcdefg\",\"c\":\"x-\\ud83d\\ude00\"}",
+        ),
+        (significant, "{\"a\":\"1\",\"c\":\"3\",\"d\":\"4\"}"),
+    ];
+    for (pairs, expected) in rows {
+        assert_eq!(rt; canonical(alloc, &pairs)?.as_str(), expected);
+    }
+    Ok(())
+}
+
+#[test]
+fn canonical_texts_have_the_escapes_of_texts(rt: HostRuntime) -> Result<(), Fail> {
+    for (plain, expected) in QUOTED {
+        let pairs = vec![in rt.alloc(); pair(rt.alloc(), plain, plain)?]?;
+        let expected = format!(in rt.alloc(); "{{{expected}:{expected}}}")?;
+        assert_eq!(rt; canonical(rt.alloc(), &pairs)?.as_str(), expected.as_str());
     }
     Ok(())
 }
@@ -121,6 +168,154 @@ fn fields_are_taken_once(rt: HostRuntime) -> Result<(), Fail> {
     ];
     for (name, expected) in numbers {
         assert_eq!(rt; fields.take_int(name), expected, "{name}");
+    }
+    Ok(())
+}
+
+#[test]
+fn truth_values_are_taken(rt: HostRuntime) -> Result<(), Fail> {
+    let object = "{\"no\":false,\"null\":null,\"one\":1,\"text\":\"true\",\"yes\":true}";
+    let mut fields = Fields::from_value(Value::from_str(rt.alloc(), object)?)?;
+    let rows = [
+        ("absent", Ok(None)),
+        ("null", Ok(None)),
+        ("one", Err(TakeFault::WrongKind)),
+        ("text", Err(TakeFault::WrongKind)),
+        ("yes", Ok(Some(true))),
+        ("yes", Ok(None)),
+        ("no", Ok(Some(false))),
+    ];
+    for (name, expected) in rows {
+        assert_eq!(rt; fields.take_truth(name), expected, "{name}");
+    }
+    Ok(())
+}
+
+/// The answer to taking the field `r` of an object with it, and whether the field is there afterwards.
+fn amounts_of(
+    alloc: Global,
+    field: &str,
+) -> Result<(Result<Option<String>, TakeFault>, bool), Fail> {
+    let object = format!(in alloc; "{{\"r\":{field}}}")?;
+    let mut fields = Fields::from_value(Value::from_str(alloc, &object)?)?;
+    let answer = match fields.take_amounts(alloc, "r") {
+        Ok(Some(amounts)) => {
+            let mut shown = String::new(alloc);
+            for (name, amount) in amounts.entries() {
+                shown.push_str(&format!(in alloc; "{}={amount};", name.as_str())?)?;
+            }
+            Ok(Some(shown))
+        }
+        Ok(None) => Ok(None),
+        Err(fault) => Err(fault),
+    };
+    Ok((answer, fields.take_first().is_some()))
+}
+
+#[test]
+fn amounts_are_taken_within_their_range(rt: HostRuntime) -> Result<(), Fail> {
+    let alloc = rt.alloc();
+    let taken = [
+        ("{\"db\":2}", "db=2;"),
+        ("{}", ""),
+        ("{\"b\":4294967295,\"a\":0,\"b\":1}", "a=0;b=1;"),
+        ("{\"b\":4294967295}", "b=4294967295;"),
+    ];
+    for (field, expected) in taken {
+        let (answer, stays) = amounts_of(alloc, field)?;
+        let shown = matches!(&answer, Ok(Some(shown)) if shown.as_str() == expected);
+        assert!(rt; shown && !stays, "{field}");
+    }
+    let refused = [
+        ("{\"db\":-1}", TakeFault::OutOfRange),
+        ("{\"db\":4294967296}", TakeFault::OutOfRange),
+        ("{\"db\":\"2\"}", TakeFault::WrongKind),
+        ("{\"db\":null}", TakeFault::WrongKind),
+        ("{\"db\":1.0}", TakeFault::WrongKind),
+        ("{\"b\":-1,\"a\":[]}", TakeFault::WrongKind),
+        ("{\"b\":[],\"a\":-1}", TakeFault::OutOfRange),
+        ("[]", TakeFault::WrongKind),
+        ("2", TakeFault::WrongKind),
+    ];
+    for (field, expected) in refused {
+        let (answer, stays) = amounts_of(alloc, field)?;
+        let refused = matches!(&answer, Err(fault) if *fault == expected);
+        assert!(rt; refused && stays, "{field}");
+    }
+    let mut fields = fields(alloc)?;
+    assert!(rt; matches!(&fields.take_amounts(alloc, "absent"), Ok(None)));
+    assert!(rt; matches!(&fields.take_amounts(alloc, "null"), Ok(None)));
+    Ok(())
+}
+
+#[test]
+fn texts_and_pairs_are_taken_whole(rt: HostRuntime) -> Result<(), Fail> {
+    let alloc = rt.alloc();
+    let object =
+        "{\"list\":[\"é\",\"\",\"a\"],\"mixed\":[\"a\",null],\"null\":null,\"object\":{\"b\":\"x\",\"a\":\"é\"},\
+        \"odd\":{\"a\":1}}";
+    let mut fields = Fields::from_value(Value::from_str(alloc, object)?)?;
+    for name in ["mixed", "object", "odd"] {
+        assert!(rt;
+            matches!(&fields.take_texts(alloc, name), Err(TakeFault::WrongKind)),
+            "{name}"
+        );
+    }
+    for name in ["mixed", "list", "odd"] {
+        assert!(rt;
+            matches!(&fields.take_pairs(alloc, name), Err(TakeFault::WrongKind)),
+            "{name}"
+        );
+    }
+    let Some(texts) = fields.take_texts(alloc, "list")? else {
+        return Err(Fail);
+    };
+    assert_eq!(rt; texts.len(), 3);
+    for (text, expected) in texts.iter().zip(["é", "", "a"]) {
+        assert_eq!(rt; text.as_str(), expected);
+    }
+    let Some(pairs) = fields.take_pairs(alloc, "object")? else {
+        return Err(Fail);
+    };
+    assert_eq!(rt; pairs.len(), 2);
+    for ((name, value), expected) in pairs.iter().zip([("a", "é"), ("b", "x")]) {
+        assert_eq!(rt; (name.as_str(), value.as_str()), expected);
+    }
+    for name in ["absent", "list", "null", "object"] {
+        assert!(rt;
+            matches!(&fields.take_texts(alloc, name), Ok(None)),
+            "{name}"
+        );
+        assert!(rt;
+            matches!(&fields.take_pairs(alloc, name), Ok(None)),
+            "{name}"
+        );
+    }
+    Ok(())
+}
+
+#[test]
+fn the_first_field_is_the_first_in_the_order_of_bytes(rt: HostRuntime) -> Result<(), Fail> {
+    let alloc = rt.alloc();
+    let object = "{\"b\":1,\"a\":2,\"é\":null,\"Z\":[3]}";
+    let mut fields = Fields::from_value(Value::from_str(alloc, object)?)?;
+    for (name, value) in [("Z", "[3]"), ("a", "2"), ("b", "1"), ("é", "null")] {
+        let Some((first, found)) = fields.take_first() else {
+            return Err(Fail);
+        };
+        assert_eq!(rt; first.as_str(), name);
+        assert_eq!(rt; found.to_string(alloc)?.as_str(), value);
+    }
+    assert!(rt; fields.take_first().is_none());
+    Ok(())
+}
+
+#[test]
+fn any_value_is_taken_but_null(rt: HostRuntime) -> Result<(), Fail> {
+    let mut fields = fields(rt.alloc())?;
+    assert!(rt; matches!(&fields.take_value("half"), Some(value) if value.is_f64()));
+    for name in ["absent", "half", "null"] {
+        assert!(rt; fields.take_value(name).is_none(), "{name}");
     }
     Ok(())
 }

@@ -1,0 +1,7 @@
+use Rattle.std.proofs.Common.{◌≡◌}
+use Rattle.serde_json.specs.View.{members_view}
+use Rattle.lg_json.specs.Fields.{each_member, text_of, checked}
+use Rattle.lg_json.proofs.lists.check_pairs.Given as goal
+
+abbrev pub invariant-loop-value : goal.invariant-loop-value
+invariant-loop-value l = checked (each_member text_of (members_view l.members.entries)) ≡ checked (each_member text_of (members_view l.value-iterator))
