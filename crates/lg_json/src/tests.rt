@@ -267,16 +267,14 @@ fn texts_and_pairs_are_taken_whole(rt: HostRuntime) -> Result<(), Fail> {
             "{name}"
         );
     }
-    let Some(texts) = fields.take_texts(alloc, "list")? else {
-        return Err(Fail);
-    };
+    let texts = fields.take_texts(alloc, "list")?.expect(&rt, "the list");
     assert_eq!(rt; texts.len(), 3);
     for (text, expected) in texts.iter().zip(["é", "", "a"]) {
         assert_eq!(rt; text.as_str(), expected);
     }
-    let Some(pairs) = fields.take_pairs(alloc, "object")? else {
-        return Err(Fail);
-    };
+    let pairs = fields
+        .take_pairs(alloc, "object")?
+        .expect(&rt, "the object");
     assert_eq!(rt; pairs.len(), 2);
     for ((name, value), expected) in pairs.iter().zip([("a", "é"), ("b", "x")]) {
         assert_eq!(rt; (name.as_str(), value.as_str()), expected);
@@ -300,9 +298,7 @@ fn the_first_field_is_the_first_in_the_order_of_bytes(rt: HostRuntime) -> Result
     let object = "{\"b\":1,\"a\":2,\"é\":null,\"Z\":[3]}";
     let mut fields = Fields::from_value(Value::from_str(alloc, object)?)?;
     for (name, value) in [("Z", "[3]"), ("a", "2"), ("b", "1"), ("é", "null")] {
-        let Some((first, found)) = fields.take_first() else {
-            return Err(Fail);
-        };
+        let (first, found) = fields.take_first().expect(&rt, name);
         assert_eq!(rt; first.as_str(), name);
         assert_eq!(rt; found.to_string(alloc)?.as_str(), value);
     }
