@@ -4,6 +4,7 @@
 #![tactic(auto)]
 
 mod failures;
+pub mod laws;
 mod policy;
 #[cfg(test)]
 mod tests;
