@@ -1,0 +1,4 @@
+mod DateLemmas
+mod KindLemmas
+mod PlaceLemmas
+mod ReadingLemmas
