@@ -43,3 +43,10 @@ same_day date y m d year month day =
 
 pub day_below : (y m d : ℕ) → IsCivilDate (pos y) m d → d < 100
 day_below y m d is = omega (arith, days_in_month_bounds (pos y) m)
+
+-- a day from 0001-01-01 on is of a year from 1 on
+pub year_of_day : (date : Date) → IsDay (epoch_day date) → (pos 1 ≤ℤ date.year) × (date.year ≤ℤ pos 9999)
+year_of_day date is =
+    by_lt_z date.year (pos 1)
+    (λ earlier. absurd (omega (arith, ints, day_count-first, days_from_civil-day_count date.year date.month date.day, day_count-lt_year date.year date.month date.day (pos 1) 1 1 (civil date) (omega arith) earlier, is.0)))
+    (λ low. (low, (civil date).0.1))

@@ -1,4 +1,4 @@
-ghost use Rattle.std.specs.Prelude.{◌≡◌, ◌<◌, ◌∷◌, ◌++◌, OnOk, IfOk};
+ghost use Rattle.std.specs.Prelude.{◌≡◌, ◌<◌, ◌∷◌, ◌++◌, pos, OnOk, IfOk};
 ghost use Rattle.std.specs.String.{string_bytes};
 ghost use Rattle.jiff_core.specs.Date.{epoch_day};
 ghost use Rattle.lg_params.specs.Dates.{IsYear, IsMonth, IsYearText, IsMonthText, SpellsYear, SpellsMonth, SpellsDate, SpellsDateHour, SpellsDateMinute};
@@ -62,9 +62,17 @@ fn date_digits(alloc: Global, date: Date) -> Result<String, AllocError>
     requires { IsDay (epoch_day date) }
     ensures { IfOk result (λ text. SpellsDate (string_bytes text) (epoch_day date)) }
 {
-    let mut text = month_digits(alloc, date.year as u16, date.month)?;
+    let mut text = month_digits(alloc, year_of(date), date.month)?;
     push_marked(&mut text, '-', date.day)?;
     Ok(text)
+}
+
+fn year_of(date: Date) -> u16
+    requires { IsDay (epoch_day date) }
+    ensures same { date.year ≡ pos result }
+    ensures in_range { IsYear result }
+{
+    date.year as u16
 }
 
 fn month_digits(alloc: Global, year: u16, month: u8) -> Result<String, AllocError>
