@@ -1,4 +1,5 @@
 mod DateLemmas
 mod KindLemmas
+mod ListLemmas
 mod PlaceLemmas
 mod ReadingLemmas

@@ -21,6 +21,7 @@ IsBadText Kind.DateMinute text = SpellsNothing Kind.DateMinute text
 IsBadText Kind.Month text = SpellsNothing Kind.Month text
 IsBadText Kind.Year text = SpellsNothing Kind.Year text
 IsBadText (Kind.Choice choices) text = ⊥
+IsBadText Kind.Texts text = SpellsNothing Kind.Texts text
 
 -- the kind declares texts, and this is none of them
 abbrev pub IsNoChoice : Kind → List ℕ → Type 0
@@ -36,6 +37,7 @@ IsOutOfRange _ text = ⊥
 abbrev pub HoldsText : Kind → Type 0
 HoldsText Kind.Text = Unit {0}
 HoldsText (Kind.Choice choices) = Unit {0}
+HoldsText Kind.Texts = Unit {0}
 HoldsText _ = ⊥
 
 -- each answer exactly where it is due, but that memory may run out before

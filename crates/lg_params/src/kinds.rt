@@ -22,4 +22,7 @@ pub enum Kind {
     Year,
     /// One of these texts.
     Choice(TextList),
+    /// A JSON list of texts (RFC 8259). It is written with a comma and a blank between each two, and with escapes for all
+    /// but printable ASCII.
+    Texts,
 }

@@ -5,6 +5,7 @@ mod date_texts;
 mod dates;
 mod fault;
 mod kinds;
+mod lists;
 mod params;
 mod places;
 mod reading;

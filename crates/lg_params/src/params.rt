@@ -1,3 +1,4 @@
+use crate::TextList;
 use lg_base::Text;
 
 /// A value of a parameter.
@@ -17,4 +18,5 @@ pub enum Param {
     /// The year itself.
     Year(i64),
     Choice(Text),
+    Texts(TextList),
 }

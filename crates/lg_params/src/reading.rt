@@ -8,6 +8,7 @@ ghost use Rattle.lg_params.specs.Refusing.{Answers, IsBadText, IsNoChoice, IsOut
 ghost use Rattle.lg_params.specs.Spelling.{Spells, SpellsTruth};
 ghost use Rattle.lg_params.specs.declared.params.Param.{Param};
 
+use crate::lists::read_texts;
 use crate::dates::{read_date, read_date_hour, read_date_minute, read_month, read_year};
 use crate::{Kind, Param, ReadFault, TextList};
 use lg_base::Text;
@@ -32,7 +33,7 @@ pub fn read(alloc: Global, kind: &Kind, text: &Text) -> Result<Param, ReadFault>
     answer(alloc, kind, text)
 }
 
-fn answer(_alloc: Global, kind: &Kind, text: &Text) -> Result<Param, ReadFault>
+fn answer(alloc: Global, kind: &Kind, text: &Text) -> Result<Param, ReadFault>
     ensures { Answers kind.now text.now result }
 {
     match kind {
@@ -45,6 +46,7 @@ fn answer(_alloc: Global, kind: &Kind, text: &Text) -> Result<Param, ReadFault>
         Kind::Month => value_of(read_month(text.bytes()).map(Param::Month)),
         Kind::Year => value_of(read_year(text.bytes()).map(Param::Year)),
         Kind::Choice(choices) => read_choice(choices, text),
+        Kind::Texts => read_texts(alloc, text.as_str()),
     }
 }
 

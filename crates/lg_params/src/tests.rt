@@ -17,6 +17,7 @@ fn number(alloc: Global, kind: &Kind, text: &str) -> Result<Result<i64, ReadFaul
         Ok(Param::Year(year)) => Ok(year),
         Ok(Param::Text(_)) => Ok(-1),
         Ok(Param::Choice(_)) => Ok(-2),
+        Ok(Param::Texts(texts)) => Ok(texts.texts().len() as i64),
         Err(fault) => Err(fault),
     })
 }
@@ -197,6 +198,30 @@ fn a_choice_is_one_of_the_declared_texts(rt: HostRuntime) -> Result<(), Fail> {
 }
 
 #[test]
+fn a_list_is_json(rt: HostRuntime) -> Result<(), Fail> {
+    let rows = [
+        ("[]", Ok(0)),
+        (" [ ] ", Ok(0)),
+        ("[\"a\", \"b\"]", Ok(2)),
+        ("[\"a\",\"b\"]", Ok(2)),
+        ("\n[ \"a\" ,\t\"b\" ]\r", Ok(2)),
+        ("[\"a\", 1]", BAD),
+        ("[\"a\", null]", BAD),
+        ("[[\"a\"]]", BAD),
+        ("[\"a\",]", BAD),
+        ("[\"a\" \"b\"]", BAD),
+        ("[\"a\"] x", BAD),
+        ("['a']", BAD),
+        ("[\"\\ud800\"]", BAD),
+        ("\"a\"", BAD),
+        ("{}", BAD),
+        ("a", BAD),
+        ("", BAD),
+    ];
+    assert_numbers(&rt, rt.alloc(), &Kind::Texts, &rows)
+}
+
+#[test]
 fn each_value_has_one_text(rt: HostRuntime) -> Result<(), Fail> {
     let alloc = rt.alloc();
     let rows = [
@@ -219,6 +244,12 @@ fn each_value_has_one_text(rt: HostRuntime) -> Result<(), Fail> {
         (Kind::Month, "1969-12", "1969-12"),
         (Kind::Month, "9999-12", "9999-12"),
         (Kind::Year, "0001", "0001"),
+        (Kind::Texts, "[]", "[]"),
+        (Kind::Texts, "[\"\"]", "[\"\"]"),
+        (Kind::Texts, "[\"a\",\"b\"]", "[\"a\", \"b\"]"),
+        (Kind::Texts, "[\"é\\/\"]", "[\"\\u00e9/\"]"),
+        (Kind::Texts, "[\"\\ud83d\\ude00\"]", "[\"\\ud83d\\ude00\"]"),
+        (Kind::Texts, "[\"\\u0041\\n\\\"\"]", "[\"A\\n\\\"\"]"),
     ];
     for (kind, text, expected) in &rows {
         assert_eq!(rt; rewritten(alloc, kind, text)?.as_str(), *expected, "{text:?}");

@@ -4,6 +4,7 @@ ghost use Rattle.lg_params.specs.Writing.{IsWritten};
 
 use crate::Param;
 use crate::date_texts::{date_hour_text, date_minute_text, date_text, month_text, year_text};
+use crate::lists::list_text;
 use itoa::Buffer;
 use lg_base::{NoMemory, Text};
 use std::alloc::Global;
@@ -24,5 +25,6 @@ pub fn write(alloc: Global, param: &Param) -> Result<Text, NoMemory>
         Param::Month(months) => Ok(Text::from_string(month_text(alloc, *months)?)),
         Param::Year(year) => Ok(Text::from_string(year_text(alloc, *year)?)),
         Param::Choice(text) => Ok(text.clone()?),
+        Param::Texts(texts) => list_text(alloc, texts.texts()),
     }
 }
