@@ -1,5 +1,5 @@
 -- The days of the years 0001 to 9999.
-use Rattle.std.proofs.Common.{◌≡◌, ℕ, ◌+◌, ◌<◌, ◌≤◌, ℤ, pos, negsuc, ◌<ℤ◌, ◌≤ℤ◌, arith, refl, ap, sym, ◌∙◌, ◌⊎◌, rules}
+use Rattle.std.proofs.Common.{◌≡◌, ℕ, ◌+◌, ◌<◌, ◌≤◌, ℤ, pos, negsuc, ◌<ℤ◌, ◌≤ℤ◌, unsigned_abs, arith, refl, ap, sym, ◌∙◌, ◌⊎◌, rules}
 use Rattle.std.proofs.lemmas.Int.{ints, by_lt_z}
 use Rattle.std.specs.Int.{IsInRange}
 use Rattle.jiff_core.specs.Calendar.{IsCivilDate, IsDate, days_in_month, day_count, days_from_civil}
@@ -50,3 +50,9 @@ year_of_day date is =
     by_lt_z date.year (pos 1)
     (λ earlier. absurd (omega (arith, ints, day_count-first, days_from_civil-day_count date.year date.month date.day, day_count-lt_year date.year date.month date.day (pos 1) 1 1 (civil date) (omega arith) earlier, is.0)))
     (λ low. (low, (civil date).0.1))
+
+pub day_of_year : (date : Date) → (pos 1 ≤ℤ date.year) × (date.year ≤ℤ pos 9999) → IsDay (epoch_day date)
+day_of_year date years =
+    let year : date.year ≡ pos (unsigned_abs date.year) = omega (arith, ints) in
+    let same = same_day date (unsigned_abs date.year) date.month date.day year refl refl in
+    rw same.1 (day_in_range (unsigned_abs date.year) date.month date.day (omega (arith, ints), omega (arith, ints)) same.0)

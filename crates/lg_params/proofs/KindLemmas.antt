@@ -91,3 +91,4 @@ writable Kind.Month text p is = rw is.2 (month_in_range text is.0 is.1)
 writable Kind.Year text p is =
     let text = is.1.of_text in rw is.2 (omega (arith, ints, is.1.number), omega (arith, ints, is.1.number))
 writable (Kind.Choice choices) text p is = rw is.1 tt
+writable Kind.Texts text p is = rw is.2 tt

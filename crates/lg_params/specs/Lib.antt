@@ -1,6 +1,7 @@
 pub mod Dates
 pub mod Faults
 pub mod Finds
+pub mod Kinds
 pub mod Places
 pub mod Ranges
 pub mod Refusing

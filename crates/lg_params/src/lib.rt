@@ -5,6 +5,7 @@ mod date_texts;
 mod dates;
 mod fault;
 mod kinds;
+pub mod laws;
 mod lists;
 mod params;
 mod places;

@@ -1,0 +1,18 @@
+-- The values of a kind. This project's own.
+use Rattle.std.specs.Prelude.{◌≡◌, ℕ, List, Bool, ℤ, All, Contains, IsUtf8, FitsSigned}
+use Rattle.std.specs.Int.{w64}
+use Rattle.lg_params.specs.declared.kinds.Kind.{Kind}
+use Rattle.lg_params.specs.declared.params.Param.{Param}
+
+-- a value of the kind; the texts of a list are UTF-8, as each `Text` is
+abbrev pub IsOfKind : Kind → Param → Type 0
+IsOfKind Kind.Text p = (text : List ℕ) × (p ≡ Param.Text text)
+IsOfKind Kind.Int p = (n : ℤ) × FitsSigned w64 n × (p ≡ Param.Int n)
+IsOfKind Kind.Truth p = (b : Bool) × (p ≡ Param.Truth b)
+IsOfKind Kind.Date p = (days : ℤ) × (p ≡ Param.Date days)
+IsOfKind Kind.DateHour p = (hours : ℤ) × (p ≡ Param.DateHour hours)
+IsOfKind Kind.DateMinute p = (minutes : ℤ) × (p ≡ Param.DateMinute minutes)
+IsOfKind Kind.Month p = (months : ℤ) × (p ≡ Param.Month months)
+IsOfKind Kind.Year p = (year : ℤ) × (p ≡ Param.Year year)
+IsOfKind (Kind.Choice choices) p = (text : List ℕ) × Contains choices text × (p ≡ Param.Choice text)
+IsOfKind Kind.Texts p = (texts : List (List ℕ)) × All IsUtf8 texts × (p ≡ Param.Texts texts)
