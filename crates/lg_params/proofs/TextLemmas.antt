@@ -1,5 +1,5 @@
 -- A value and its texts.
-use Rattle.std.proofs.Common.{◌≡◌, ℕ, ◌<◌, ◌≤◌, ◌+◌, ◌^◌, suc, neg_ℤ, Bool, true, false, ℤ, pos, negsuc, ◌+ℤ◌, ◌*ℤ◌, List, [], ◌∷◌, ◌++◌, length, get_or, map, All, Contains, FitsSigned, w64, codes, refl, sym, ap, ◌∙◌, subst, arith}
+use Rattle.std.proofs.Common.{◌≡◌, ℕ, ◌<◌, ◌≤◌, ◌+◌, ◌^◌, suc, neg_ℤ, Bool, true, false, ℤ, pos, negsuc, ◌+ℤ◌, ◌*ℤ◌, List, [], ◌∷◌, ◌++◌, length, get_or, map, Some, All, Contains, FitsSigned, w64, codes, refl, sym, ap, ◌∙◌, subst, arith}
 use Rattle.std.specs.Prelude.{IsUtf8}
 use Rattle.std.specs.Fmt.{decimal, signed_decimal}
 use Rattle.std.specs.Str.Parse.{IsNumeral, without_leading_sign, signed_digits_value, digits_value}
@@ -10,6 +10,8 @@ use Rattle.std.proofs.lemmas.Int.{ints}
 use Rattle.jiff_core.specs.Calendar.{IsCivilDate, days_from_civil}
 use Rattle.jiff_core.specs.declared.civil.date.Date.{Date}
 use Rattle.jiff_core.proofs.DateLemmas.{epoch_day_injective}
+use Rattle.serde_json.specs.Data.{string, array}
+use Rattle.serde_json.specs.View.{items_of}
 use Rattle.lg_params.specs.declared.kinds.Kind.{Kind}
 use Rattle.lg_params.specs.declared.params.Param.{Param}
 use Rattle.lg_params.specs.Dates.{year_text, month_text, date_text, month_number, IsYear, IsMonth, IsDateText, SpellsYear, SpellsMonth, SpellsDate, SpellsDateHour, SpellsDateMinute}
@@ -66,3 +68,131 @@ written_spells (Kind.Choice choices) p text (value, declared, is) written =
     (subst (λ (t : List ℕ). Contains choices t) (sym same) declared, is ∙ ap (λ (t : List ℕ). Param.Choice t) (sym same))
 written_spells Kind.Texts p text (texts, utf8, is) written =
     (texts, subst (λ (t : List ℕ). SpellsTexts t texts) (sym (rw is at written)) (list_read texts (each_utf8 texts utf8)), is)
+
+-- ---- a text is one value
+
+year_one : (text : List ℕ) (n m : ℤ) → SpellsYear text n → SpellsYear text m → n ≡ m
+year_one text n m one other =
+    let a = one.of_text in
+    let b = other.of_text in
+    let year = four_digits_same one.year other.year (omega arith) (omega arith) (sym a.spelled ∙ b.spelled) in
+    one.number ∙ (ap (λ (y : ℕ). pos y) year ∙ sym other.number)
+
+month_one : (text : List ℕ) (n m : ℤ) → SpellsMonth text n → SpellsMonth text m → n ≡ m
+month_one text n m one other =
+    let a = one.of_text in
+    let b = other.of_text in
+    let same = month_text_same one.year one.month other.year other.month a.year_in a.month_in b.year_in b.month_in (sym a.spelled ∙ b.spelled) in
+    one.number ∙ (rw (same.0, same.1) (sym other.number))
+
+date_text_same : (text : List ℕ) (y m d y₂ m₂ d₂ : ℕ) → IsDateText text y m d → IsDateText text y₂ m₂ d₂ → (y ≡ y₂) × (m ≡ m₂) × (d ≡ d₂)
+date_text_same text y m d y₂ m₂ d₂ a b =
+    let ends = marked_at_end_same (month_text y m) (month_text y₂ m₂) 45 d d₂ (day_below y m d a.exists) (day_below y₂ m₂ d₂ b.exists) (sym a.spelled ∙ b.spelled) in
+    let month = month_text_same y m y₂ m₂ a.year_in a.exists.1 b.year_in b.exists.1 ends.0 in
+    (month.0, month.1, ends.1)
+
+date_one : (text : List ℕ) (n m : ℤ) → SpellsDate text n → SpellsDate text m → n ≡ m
+date_one text n m one other =
+    let same = date_text_same text one.year one.month one.day other.year other.month other.day one.of_text other.of_text in
+    one.number ∙ (rw (same.0, same.1, same.2) (sym other.number))
+
+date_hour_one : (text : List ℕ) (n m : ℤ) → SpellsDateHour text n → SpellsDateHour text m → n ≡ m
+date_hour_one text n m one other =
+    let ends = marked_at_end_same one.date other.date 84 one.hour other.hour (omega arith) (omega arith) (sym one.spelled ∙ other.spelled) in
+    let day = date_one one.date one.day other.day one.of_date (subst (λ (t : List ℕ). SpellsDate t other.day) (sym ends.0) other.of_date) in
+    one.number ∙ (rw (day, ends.1) (sym other.number))
+
+date_minute_one : (text : List ℕ) (n m : ℤ) → SpellsDateMinute text n → SpellsDateMinute text m → n ≡ m
+date_minute_one text n m one other =
+    let ends = two_at_end_same one.date other.date one.minute other.minute (omega arith) (omega arith) (sym one.spelled ∙ other.spelled) in
+    let hours = date_hour_one one.date one.hours other.hours one.of_date (subst (λ (t : List ℕ). SpellsDateHour t other.hours) (sym ends.0) other.of_date) in
+    one.number ∙ (rw (hours, ends.1) (sym other.number))
+
+truth_one : (b c : Bool) → truth_text b ≡ truth_text c → b ≡ c
+truth_one true true e = refl
+truth_one true false e = absurd (cc)
+truth_one false true e = absurd (cc)
+truth_one false false e = refl
+
+strings_same : (ts us : List (List ℕ)) → map string ts ≡ map string us → ts ≡ us
+strings_same [] [] e = refl
+strings_same [] (u ∷ us) e = absurd (cc)
+strings_same (t ∷ ts) [] e = absurd (cc)
+strings_same (t ∷ ts) (u ∷ us) e =
+    let first : t ≡ u = cc in
+    let rest : map string ts ≡ map string us = cc in
+    let others = strings_same ts us rest in cc
+
+texts_one : (text : List ℕ) (ts us : List (List ℕ)) → SpellsTexts text ts → SpellsTexts text us → ts ≡ us
+texts_one text ts us one other =
+    let same : Some (array (items_of (map string ts))) ≡ Some (array (items_of (map string us))) = sym one ∙ other in
+    let items : items_of (map string ts) ≡ items_of (map string us) = cc in
+    strings_same ts us (items_same (map string ts) (map string us) items)
+
+pub one_value : (kind : Kind) (text : List ℕ) (p q : Param) → Spells kind text p → Spells kind text q → p ≡ q
+one_value Kind.Text text p q one other = one ∙ sym other
+one_value Kind.Int text p q (n, is, fits, e) (m, are, fit, f) =
+    e ∙ (ap (λ (z : ℤ). Param.Int z) (is.number ∙ sym are.number) ∙ sym f)
+one_value Kind.Truth text p q (b, is, e) (c, are, f) = e ∙ (ap (λ (t : Bool). Param.Truth t) (truth_one b c (sym is ∙ are)) ∙ sym f)
+one_value Kind.Date text p q (n, is, e) (m, are, f) = e ∙ (ap (λ (z : ℤ). Param.Date z) (date_one text n m is are) ∙ sym f)
+one_value Kind.DateHour text p q (n, is, e) (m, are, f) = e ∙ (ap (λ (z : ℤ). Param.DateHour z) (date_hour_one text n m is are) ∙ sym f)
+one_value Kind.DateMinute text p q (n, is, e) (m, are, f) = e ∙ (ap (λ (z : ℤ). Param.DateMinute z) (date_minute_one text n m is are) ∙ sym f)
+one_value Kind.Month text p q (n, is, e) (m, are, f) = e ∙ (ap (λ (z : ℤ). Param.Month z) (month_one text n m is are) ∙ sym f)
+one_value Kind.Year text p q (n, is, e) (m, are, f) = e ∙ (ap (λ (z : ℤ). Param.Year z) (year_one text n m is are) ∙ sym f)
+one_value (Kind.Choice choices) text p q (declared, e) (also, f) = e ∙ sym f
+one_value Kind.Texts text p q (ts, is, e) (us, are, f) = e ∙ (ap (λ (t : List (List ℕ)). Param.Texts t) (texts_one text ts us is are) ∙ sym f)
+
+-- ---- a value has one text
+
+year_text_one : (text other : List ℕ) (n : ℤ) → SpellsYear text n → SpellsYear other n → text ≡ other
+year_text_one text other n one two =
+    let a = one.of_text in
+    let b = two.of_text in
+    let year : one.year ≡ two.year = omega (arith, ints, one.number, two.number) in
+    a.spelled ∙ (ap (λ (y : ℕ). year_text y) year ∙ sym b.spelled)
+
+month_text_one : (text other : List ℕ) (n : ℤ) → SpellsMonth text n → SpellsMonth other n → text ≡ other
+month_text_one text other n one two =
+    let a = one.of_text in
+    let b = two.of_text in
+    let year : one.year ≡ two.year = omega (arith, ints, one.number, two.number) in
+    let month : one.month ≡ two.month = omega (arith, ints, one.number, two.number) in
+    a.spelled ∙ (ap (λ (t : ℕ × ℕ). month_text t.0 t.1) (cc) ∙ sym b.spelled)
+
+date_of : (y m d : ℕ) → IsCivilDate (pos y) m d → Date
+date_of y m d is = record { year = pos y; month = m; day = d; year_in = is.0; month_in = is.1; day_in = is.2 }
+
+date_text_one : (text other : List ℕ) (n : ℤ) → SpellsDate text n → SpellsDate other n → text ≡ other
+unfolding date_of
+date_text_one text other n one two =
+    let a = one.of_text in
+    let b = two.of_text in
+    let same = epoch_day_injective (date_of one.year one.month one.day a.exists) (date_of two.year two.month two.day b.exists) (sym one.number ∙ two.number) in
+    let year : one.year ≡ two.year = omega (arith, ints, same.0) in
+    a.spelled ∙ (ap (λ (t : ℕ × ℕ × ℕ). date_text t.0 t.1 t.2) (λ i. (year i, same.1 i, same.2 i)) ∙ sym b.spelled)
+
+date_hour_text_one : (text other : List ℕ) (n : ℤ) → SpellsDateHour text n → SpellsDateHour other n → text ≡ other
+date_hour_text_one text other n one two =
+    let day : one.day ≡ two.day = omega (arith, ints, one.number, two.number) in
+    let hour : one.hour ≡ two.hour = omega (arith, ints, one.number, two.number) in
+    let date = date_text_one one.date two.date two.day (subst (λ (z : ℤ). SpellsDate one.date z) day one.of_date) two.of_date in
+    one.spelled ∙ (ap (λ (t : List ℕ × ℕ). t.0 ++ 84 ∷ two_digits t.1) (λ i. (date i, hour i)) ∙ sym two.spelled)
+
+date_minute_text_one : (text other : List ℕ) (n : ℤ) → SpellsDateMinute text n → SpellsDateMinute other n → text ≡ other
+date_minute_text_one text other n one two =
+    let hours : one.hours ≡ two.hours = omega (arith, ints, one.number, two.number) in
+    let minute : one.minute ≡ two.minute = omega (arith, ints, one.number, two.number) in
+    let date = date_hour_text_one one.date two.date two.hours (subst (λ (z : ℤ). SpellsDateHour one.date z) hours one.of_date) two.of_date in
+    one.spelled ∙ (ap (λ (t : List ℕ × ℕ). t.0 ++ two_digits t.1) (λ i. (date i, minute i)) ∙ sym two.spelled)
+
+pub one_text : (p : Param) (text other : List ℕ) → IsWritten p text → IsWritten p other → text ≡ other
+one_text (Param.Text value) text other one two = one ∙ sym two
+one_text (Param.Int n) text other one two = one ∙ sym two
+one_text (Param.Truth b) text other one two = one ∙ sym two
+one_text (Param.Date n) text other one two = date_text_one text other n one two
+one_text (Param.DateHour n) text other one two = date_hour_text_one text other n one two
+one_text (Param.DateMinute n) text other one two = date_minute_text_one text other n one two
+one_text (Param.Month n) text other one two = month_text_one text other n one two
+one_text (Param.Year n) text other one two = year_text_one text other n one two
+one_text (Param.Choice value) text other one two = one ∙ sym two
+one_text (Param.Texts texts) text other one two = one ∙ sym two
