@@ -1,5 +1,5 @@
 -- From the search for a value to the answer, and which values are spelled.
-use Rattle.std.proofs.Common.{◌≡◌, ℕ, List, [], ◌∷◌, ◌<◌, ℤ, pos, Bool, true, ◌&&◌, Option, Some, None, Result, Ok, Err, MatchOption, ok_or, inl, inr, arith, refl, ap, sym, ◌∙◌, subst, rules}
+use Rattle.std.proofs.Common.{◌≡◌, ℕ, List, [], ◌∷◌, ℤ, Bool, true, ◌&&◌, Option, Some, None, Result, MatchOption, ok_or, inl, arith, refl, ap, sym, ◌∙◌}
 use Rattle.std.specs.Char.{is_ascii_digit}
 use Rattle.std.specs.List.{list_all}
 use Rattle.std.specs.Option.{IsSomeAnd}
@@ -10,10 +10,10 @@ use Rattle.std.proofs.lemmas.Int.{ints}
 use Rattle.lg_params.specs.declared.fault.ReadFault.{ReadFault}
 use Rattle.lg_params.specs.declared.kinds.Kind.{Kind}
 use Rattle.lg_params.specs.declared.params.Param.{Param}
-use Rattle.lg_params.specs.Dates.{SpellsDate, SpellsDateHour, SpellsDateMinute, SpellsMonth, SpellsYear}
+use Rattle.lg_params.specs.Dates.{SpellsDateHour, SpellsDateMinute, SpellsMonth}
 use Rattle.lg_params.specs.Finds.{Finds}
-use Rattle.lg_params.specs.Ranges.{IsDay, IsHour, IsMinute, IsMonthNumber, IsYearNumber, IsWritable}
-use Rattle.lg_params.specs.Refusing.{Answers, SpellsNothing, IsBadText, IsNoChoice, IsOutOfRange, HoldsText}
+use Rattle.lg_params.specs.Ranges.{IsHour, IsMinute, IsMonthNumber, IsWritable}
+use Rattle.lg_params.specs.Refusing.{Answers, SpellsNothing, IsBadText, IsNoChoice, IsOutOfRange}
 use Rattle.lg_params.specs.Spelling.{Spells}
 use Rattle.lg_params.proofs.DateLemmas.{day_in_range}
 
@@ -41,24 +41,26 @@ pub record IsPlain (kind : Kind) (text : List ℕ) : Type 0 where
 pub found_answers : {V : Type 0} (P : V → Type 0) (make : V → Param) (kind : Kind) (text : List ℕ) (o : Option V) (q : Option Param) (r : Result Param ReadFault) → IsPlain kind text → ((v : V) → P v → Spells kind text (make v)) → ((p : Param) → Spells kind text p → (v : V) × P v) → Finds P o → MatchOption o (q ≡ None) (λ x. IsSomeAnd q (λ p. p ≡ make x)) → r ≡ ok_or q ReadFault.BadText → Answers kind text r
 found_answers P make kind text (Some v) (Some p) r plain spells back found made e =
     rw (e, made) (record {
-    value = spells v found;
-    spelled = λ _ _. tt;
-    bad_text = λ told. absurd (cc);
-    bad_text_told = λ bad. absurd (plain.nothing bad (make v) (spells v found));
-    no_choice = (λ told. absurd (cc), λ none. absurd (plain.no_choice none));
-    out_of_range = (λ told. absurd (cc), λ out. absurd (plain.in_range out));
-    memory = λ told. absurd (cc) })
+      value = spells v found;
+      spelled = λ _ _. tt;
+      bad_text = λ told. absurd (cc);
+      bad_text_told = λ bad. absurd (plain.nothing bad (make v) (spells v found));
+      no_choice = (λ told. absurd (cc), λ none. absurd (plain.no_choice none));
+      out_of_range = (λ told. absurd (cc), λ out. absurd (plain.in_range out));
+      memory = λ told. absurd (cc);
+    })
 found_answers P make kind text (Some v) None r plain spells back found made e = absurd made
 found_answers P make kind text None q r plain spells back none made e =
     let nothing : SpellsNothing kind text = λ p is. none (back p is).0 (back p is).1 in
     rw (e, made) (record {
-    value = tt;
-    spelled = λ p is. absurd (nothing p is);
-    bad_text = λ told. plain.bad nothing;
-    bad_text_told = λ bad. inl refl;
-    no_choice = (λ told. absurd (cc), λ choice. absurd (plain.no_choice choice));
-    out_of_range = (λ told. absurd (cc), λ out. absurd (plain.in_range out));
-    memory = λ told. absurd (cc) })
+      value = tt;
+      spelled = λ p is. absurd (nothing p is);
+      bad_text = λ told. plain.bad nothing;
+      bad_text_told = λ bad. inl refl;
+      no_choice = (λ told. absurd (cc), λ choice. absurd (plain.no_choice choice));
+      out_of_range = (λ told. absurd (cc), λ out. absurd (plain.in_range out));
+      memory = λ told. absurd (cc);
+    })
 
 -- the years of what is spelled
 pub hour_in_range : (text : List ℕ) (n : ℤ) → SpellsDateHour text n → IsHour n

@@ -1,6 +1,10 @@
 -- Lists of texts, as values of JSON.
-use Rattle.std.proofs.Common.{◌≡◌, ℕ, zero, suc, ◌<◌, List, length, get_or, arith, [], ◌∷◌, ◌++◌, map, Option, Some, None, Result, Ok, Err, IfOk, MatchOption, refl, ap, sym, ◌∙◌}
-use Rattle.serde_json.specs.Data.{Data, null, boolean, number, string, array, object, Items, no_items, item}
+use Rattle.std.proofs.Common.{◌≡◌, ℕ, zero, suc, ◌<◌, List, length, get_or, arith, [], ◌∷◌, map, Option, Some, None, Ok, subst, refl, ap, sym, ◌∙◌}
+use Rattle.std.specs.Prelude.{IsUtf8, All}
+use Rattle.std.specs.List.{between}
+use Rattle.std.proofs.lemmas.List.{get_or_read}
+use Rattle.std.proofs.lemmas.Slice.{between_to_end}
+use Rattle.serde_json.specs.Data.{Data, string, array}
 use Rattle.serde_json.specs.Find.{as_str}
 use Rattle.serde_json.specs.View.{items_of}
 use Rattle.serde_json.specs.Read.{read}
@@ -40,10 +44,27 @@ pub texts_answer : (text : List ℕ) (d : Data) (texts : List (List ℕ)) → re
 texts_answer text d texts is found =
     let spells : read text ≡ Some (array (items_of (map string texts))) = is ∙ ap (λ (e : Data). Some e) found in
     record {
-    value = (texts, spells, refl);
-    spelled = λ _ _. tt;
-    bad_text = λ told. absurd (cc);
-    bad_text_told = λ bad. absurd (bad (Param.Texts texts) (texts, spells, refl));
-    no_choice = (λ told. absurd (cc), λ none. absurd none);
-    out_of_range = (λ told. absurd (cc), λ out. absurd out);
-    memory = λ told. tt }
+      value = (texts, spells, refl);
+      spelled = λ _ _. tt;
+      bad_text = λ told. absurd (cc);
+      bad_text_told = λ bad. absurd (bad (Param.Texts texts) (texts, spells, refl));
+      no_choice = (λ told. absurd (cc), λ none. absurd none);
+      out_of_range = (λ told. absurd (cc), λ out. absurd out);
+      memory = λ told. tt;
+    }
+
+-- ---- each of some texts is UTF-8
+
+pub utf8_here : (ts : List (List ℕ)) (i k : ℕ) (t d : List ℕ) → i < length ts → t ≡ get_or ts i t → i ≡ k → IsUtf8 t → IsUtf8 (get_or ts k d)
+utf8_here ts i k t d within at same utf8 =
+    subst (λ (s : List ℕ). IsUtf8 s) (get_or_read ts i t within at d ∙ ap (λ (n : ℕ). get_or ts n d) same) utf8
+
+pub utf8_from_first : (ts : List (List ℕ)) (t : List ℕ) → 0 < length ts → t ≡ get_or ts 0 t → IsUtf8 t → All IsUtf8 (between 1 (length ts) ts) → All IsUtf8 ts
+utf8_from_first [] t some at first others = absurd (omega arith)
+utf8_from_first (a ∷ ts) t some at first others =
+    let rest : All IsUtf8 ts = subst (λ (us : List (List ℕ)). All IsUtf8 us) (between_to_end (a ∷ ts) 1 (length (a ∷ ts)) (omega arith)) others in
+    λ k d below. utf8_in a ts t k d at first rest below
+  where
+    utf8_in : (a : List ℕ) (ts : List (List ℕ)) (t : List ℕ) (k : ℕ) (d : List ℕ) → t ≡ a → IsUtf8 t → All IsUtf8 ts → k < length (a ∷ ts) → IsUtf8 (get_or (a ∷ ts) k d)
+    utf8_in a ts t zero d at first rest below = subst (λ (s : List ℕ). IsUtf8 s) at first
+    utf8_in a ts t (suc k) d at first rest below = rest k d (omega arith)

@@ -1,25 +1,24 @@
 -- JSON reads back a written list of texts.
-use Rattle.std.proofs.Common.{◌≡◌, ℕ, ◌≤◌, Bool, true, false, ◌&&◌, List, [], ◌∷◌, ◌++◌, flat_map, map, All, Some, None, option_map, option_and_then, refl, sym, ap, ◌∙◌, subst, arith, append_assoc, append-nil}
+use Rattle.std.proofs.Common.{◌≡◌, ℕ, ◌≤◌, true, false, List, [], ◌∷◌, ◌++◌, flat_map, map, Some, option_map, option_and_then, refl, sym, ap, ◌∙◌, arith, append_assoc, append-nil}
 use Rattle.std.specs.Prelude.{IsUtf8, encode_utf8_all}
-use Rattle.std.specs.List.{join_by}
 use Rattle.std.specs.Str.{chars}
 use Rattle.std.proofs.lemmas.Bool.{and_parts}
 use Rattle.std.proofs.lemmas.Str.{chars-encodes}
 use lib.Utf8.{scalar, scalars}
 use Rattle.json.specs.Json as json
-use Rattle.json.specs.Lex.{Lexeme, token, comma, colon, Mode, lex, lex_byte, between, in_string, string_token, Place, fresh, after_value, after_comma, begins_colon, punctuate, tokens}
+use Rattle.json.specs.Lex.{Lexeme, token, comma, lex, between, in_string, string_token, fresh, after_value, begins_colon, punctuate, tokens}
 use Rattle.json.specs.Text.{content, plain, prepend}
 use Rattle.json.specs.Token.{Token, begin_array, end_array, string}
 use Rattle.json.specs.Tree.{json_tokens, items_tokens, depth, items_depth}
 use Rattle.json.proofs.Printed.Trees.{value-json_tokens}
 use Rattle.serde_json.specs.Data as tree
-use Rattle.serde_json.specs.Read.{of_json, of_items, max_depth, read}
+use Rattle.serde_json.specs.Read.{of_json, of_items, max_depth}
 use Rattle.serde_json.specs.View.{items_of}
 use Rattle.lg_json.specs.Escapes.{escape, escaped}
 use Rattle.lg_json.specs.Text.{quoted}
 use Rattle.lg_params.specs.Spelling.{SpellsTexts}
 use Rattle.lg_params.specs.Writing.{list_text}
-use Rattle.lg_params.proofs.QuoteLemmas.{Passes, passes}
+use Rattle.lg_params.proofs.QuoteLemmas.{passes}
 
 content_escaped : (cs r : List ℕ) → scalars cs ≡ true → content plain (escaped cs ++ 34 ∷ r) ≡ Some (encode_utf8_all cs)
 unfolding content

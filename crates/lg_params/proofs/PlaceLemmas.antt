@@ -1,5 +1,5 @@
 -- Numbers of two and of four digits.
-use Rattle.std.proofs.Common.{◌≡◌, ◌≢◌, ℕ, ◌+◌, ◌-◌, ◌*◌, ◌/◌, ◌%◌, ◌<◌, List, [], ◌∷◌, ◌++◌, length, get_or, drop, cond, Result, Ok, Err, is_ok, OnOk, arith, refl, ap, sym, ◌∙◌, subst}
+use Rattle.std.proofs.Common.{◌≡◌, ℕ, ◌+◌, ◌-◌, ◌*◌, ◌/◌, ◌%◌, ◌<◌, List, [], ◌∷◌, ◌++◌, length, get_or, drop, cond, Result, Ok, Err, is_ok, OnOk, arith, refl, ap, sym, ◌∙◌, subst}
 use Rattle.std.proofs.lemmas.List.Prefix.{end_rest}
 use Rattle.std.proofs.lemmas.List.{length-append, append_cancel_right}
 use mathlib.Core.List.{append_assoc}
@@ -26,9 +26,10 @@ two_digits_of (a ∷ b ∷ c ∷ bs) tens ones two first second small less = abs
 
 -- what two digits at the end are, and that a text with them has two bytes at least
 pub two_at_end : (bs front : List ℕ) (n : ℕ) → bs ≡ front ++ two_digits n → (length bs ≡ length front + 2) × (drop (length bs - 2) bs ≡ two_digits n)
-two_at_end bs front n e =
-    (ap length e ∙ length-append front (two_digits n) ∙ ap (λ k. length front + k) (length-two_digits n),
-    subst (λ (k : ℕ). drop (length bs - k) bs ≡ two_digits n) (length-two_digits n) (end_rest bs (two_digits n) front e))
+two_at_end bs front n e = (
+  ap length e ∙ length-append front (two_digits n) ∙ ap (λ k. length front + k) (length-two_digits n),
+  subst (λ (k : ℕ). drop (length bs - k) bs ≡ two_digits n) (length-two_digits n) (end_rest bs (two_digits n) front e),
+)
 
 -- two bytes behind a text, the second where it could be written
 pub pushed_two : {E : Type 0} (r : Result (Unit {0}) E) (old between after first second : List ℕ) (a b : ℕ) → between ≡ old ++ first → after ≡ cond (is_ok r) (between ++ second) between → first ≡ a ∷ [] → second ≡ b ∷ [] → OnOk r (after ≡ old ++ a ∷ b ∷ [])

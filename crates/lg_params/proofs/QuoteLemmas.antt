@@ -1,19 +1,14 @@
 -- JSON reads back each character that stands between quotes with its escape.
-use Rattle.std.proofs.Common.{◌≡◌, ◌≢◌, ℕ, ◌+◌, ◌-◌, ◌*◌, ◌/◌, ◌%◌, ◌<◌, ◌≤◌, ◌⊎◌, inl, inr, ⊎_elim, Bool, true, false, cond, ◌&&◌, ◌==◌, List, [], ◌∷◌, ◌++◌, Option, Some, None, option_and_then, encode_utf8, refl, sym, ap, ◌∙◌, subst, arith, append_assoc, append-nil}
-use Rattle.std.specs.Prelude.{IsUtf8, encode_utf8_all}
-use Rattle.std.specs.Str.{chars}
-use Rattle.std.specs.Char.{digit_char, digit_value, is_digit}
-use Rattle.std.specs.Char.Escape.{encode_utf16}
+use Rattle.std.proofs.Common.{◌≡◌, ◌≢◌, ℕ, ◌+◌, ◌-◌, ◌*◌, ◌/◌, ◌%◌, ◌<◌, ◌≤◌, ◌⊎◌, inl, inr, ⊎_elim, Bool, true, false, cond, List, [], ◌∷◌, ◌++◌, Some, None, option_and_then, encode_utf8, refl, sym, ap, ◌∙◌, subst, arith, append_assoc}
+use Rattle.std.specs.Char.{digit_char}
 use Rattle.std.proofs.lemmas.Bool.{cases_eq, cases_lt, ne_eqb, le-ltb, lt-ltb}
 use Rattle.std.proofs.lemmas.Bool.Decides.{nat_tests}
-use Rattle.std.proofs.lemmas.Str.{digit_value-digit_char, encode_ascii, chars-encodes}
-use lib.Utf8.{scalar, scalars, scalar_cases, encode}
-use Rattle.json.specs.Text.{content, plain, after_backslash, after_u, after_high, prepend, code_unit, short_escape, is_high_surrogate, is_low_surrogate, surrogate_pair}
-use Rattle.json.specs.Token.{string}
+use Rattle.std.proofs.lemmas.Str.{digit_value-digit_char, encode_ascii}
+use lib.Utf8.{scalar, scalar_cases, encode}
+use Rattle.json.specs.Text.{content, plain, after_high, prepend, code_unit, short_escape, is_high_surrogate, is_low_surrogate, surrogate_pair}
 use Rattle.json.specs.Word.{is_operator, is_space}
-use Rattle.json.specs.Lex.{Lexeme, token, Mode, lex, lex_byte, between, in_string, in_escape, class, operator, space, other, string_token}
-use Rattle.lg_json.specs.Escapes.{is_plain, letter_of, unit_escape, escape_by, escape, escaped}
-use Rattle.lg_json.specs.Text.{quoted}
+use Rattle.json.specs.Lex.{Lexeme, Mode, lex, lex_byte, in_string, operator, space, other}
+use Rattle.lg_json.specs.Escapes.{is_plain, unit_escape, escape_by, escape}
 
 -- what both readers make of the escape of c, before any text
 pub record Passes (c : ℕ) : Type 0 where
@@ -112,8 +107,9 @@ plain_passes : (c : ℕ) → c ≢ 34 → c ≢ 92 → 32 ≤ c → c ≤ 126 �
 plain_passes c quote backslash low high =
     let alone = plain_escape c quote backslash low high in
     record {
-    read = λ r. rw (alone, encode_ascii c (omega arith)) (plain_read c r quote backslash low);
-    lexed = λ r. rw alone (inside c r quote backslash) }
+      read = λ r. rw (alone, encode_ascii c (omega arith)) (plain_read c r quote backslash low);
+      lexed = λ r. rw alone (inside c r quote backslash);
+    }
 
 -- a character with no letter, and that doesn't stand for itself
 pub record IsSpelledOut (c : ℕ) : Type 0 where
@@ -146,8 +142,9 @@ one_unit_passes c is small scalar =
     let alone = units_escape c is ∙ one_unit c small in
     let none = no_surrogate c scalar in
     record {
-    read = λ r. rw alone (unit_read c r small ∙ rw (none.0, none.1));
-    lexed = λ r. rw alone (unit_lexed c r small) }
+      read = λ r. rw alone (unit_read c r small ∙ rw (none.0, none.1));
+      lexed = λ r. rw alone (unit_lexed c r small);
+    }
 
 high_is : (c : ℕ) → 65536 ≤ c → c < 1114112 → is_high_surrogate (55296 + (c - 65536) / 1024) ≡ true
 high_is c big small =
@@ -168,16 +165,17 @@ two_units_passes c is big small =
     let both = units_escape c is ∙ two_units c big in
     let pair : surrogate_pair high low ≡ c = omega arith in
     record {
-    read = λ r.
-        rw (both, append_assoc (unit_escape high) (unit_escape low) r)
-        (unit_read high (unit_escape low ++ r) (omega arith)
-        ∙ (ap (λ (b : Bool). cond b (content (after_high high) (unit_escape low ++ r)) (cond (is_low_surrogate high) None (prepend (encode_utf8 high) (content plain (unit_escape low ++ r))))) (high_is c big small)
-        ∙ (second_read high low r (omega arith)
-        ∙ (ap (λ (b : Bool). cond b (prepend (encode_utf8 (surrogate_pair high low)) (content plain r)) None) (low_is c)
-        ∙ ap (λ (n : ℕ). prepend (encode_utf8 n) (content plain r)) pair))));
-    lexed = λ r.
-        rw (both, append_assoc (unit_escape high) (unit_escape low) r)
-        (unit_lexed high (unit_escape low ++ r) (omega arith) ∙ unit_lexed low r (omega arith)) }
+      read = λ r.
+          rw (both, append_assoc (unit_escape high) (unit_escape low) r)
+          (unit_read high (unit_escape low ++ r) (omega arith)
+          ∙ (ap (λ (b : Bool). cond b (content (after_high high) (unit_escape low ++ r)) (cond (is_low_surrogate high) None (prepend (encode_utf8 high) (content plain (unit_escape low ++ r))))) (high_is c big small)
+          ∙ (second_read high low r (omega arith)
+          ∙ (ap (λ (b : Bool). cond b (prepend (encode_utf8 (surrogate_pair high low)) (content plain r)) None) (low_is c)
+          ∙ ap (λ (n : ℕ). prepend (encode_utf8 n) (content plain r)) pair))));
+      lexed = λ r.
+          rw (both, append_assoc (unit_escape high) (unit_escape low) r)
+          (unit_lexed high (unit_escape low ++ r) (omega arith) ∙ unit_lexed low r (omega arith));
+    }
 
 spelled_out_passes : (c : ℕ) → IsSpelledOut c → scalar c ≡ true → Passes c
 spelled_out_passes c is real =

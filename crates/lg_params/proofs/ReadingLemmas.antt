@@ -1,5 +1,5 @@
 -- What the parts of a date's text say of the whole.
-use Rattle.std.proofs.Common.{◌≡◌, ℕ, ◌<◌, ℤ, pos, ◌+ℤ◌, ◌*ℤ◌, List, ◌∷◌, ◌++◌, Option, Some, None, MatchOption, arith, sym, ◌∙◌, ap, subst}
+use Rattle.std.proofs.Common.{◌≡◌, ℕ, ◌<◌, ℤ, pos, ◌+ℤ◌, ◌*ℤ◌, List, ◌∷◌, ◌++◌, Option, Some, None, MatchOption, arith, sym, ◌∙◌, ap}
 use Rattle.jiff_core.specs.Calendar.{IsCivilDate, days_from_civil}
 use Rattle.lg_params.specs.Dates.{IsYear, IsMonth, year_text, month_text, IsMonthText, IsDateText, SpellsDate, SpellsDateHour, SpellsDateMinute}
 use Rattle.lg_params.specs.Finds.{Finds}

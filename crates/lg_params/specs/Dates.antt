@@ -1,8 +1,8 @@
 -- Dates, months and years as texts (ISO 8601), and their numbers. The calendar is that of `jiff`: it says which days there
 -- are, and how many days lie between a date and 1970-01-01.
-use Rattle.std.specs.Prelude.{◌≡◌, ℕ, ◌<◌, List, ◌∷◌, ◌++◌, ℤ, pos, negsuc, ◌+ℤ◌, ◌-ℤ◌, ◌*ℤ◌}
+use Rattle.std.specs.Prelude.{◌≡◌, ℕ, ◌<◌, List, ◌∷◌, ◌++◌, ℤ, pos, ◌+ℤ◌, ◌-ℤ◌, ◌*ℤ◌}
 use Rattle.std.specs.Int.{IsInRange}
-use Rattle.jiff_core.specs.Calendar.{IsBetween, IsCivilDate, days_from_civil}
+use Rattle.jiff_core.specs.Calendar.{IsCivilDate, days_from_civil}
 use Rattle.lg_params.specs.Places.{two_digits, four_digits}
 
 -- the years 0001 to 9999

@@ -4,7 +4,7 @@ use Rattle.std.specs.Int.{w64}
 use Rattle.lg_params.specs.declared.kinds.Kind.{Kind}
 use Rattle.lg_params.specs.declared.params.Param.{Param}
 
--- a value of the kind; the texts of a list are UTF-8, as each `Text` is
+-- a value of the kind
 abbrev pub IsOfKind : Kind → Param → Type 0
 IsOfKind Kind.Text p = (text : List ℕ) × (p ≡ Param.Text text)
 IsOfKind Kind.Int p = (n : ℤ) × FitsSigned w64 n × (p ≡ Param.Int n)
@@ -15,4 +15,9 @@ IsOfKind Kind.DateMinute p = (minutes : ℤ) × (p ≡ Param.DateMinute minutes)
 IsOfKind Kind.Month p = (months : ℤ) × (p ≡ Param.Month months)
 IsOfKind Kind.Year p = (year : ℤ) × (p ≡ Param.Year year)
 IsOfKind (Kind.Choice choices) p = (text : List ℕ) × Contains choices text × (p ≡ Param.Choice text)
-IsOfKind Kind.Texts p = (texts : List (List ℕ)) × All IsUtf8 texts × (p ≡ Param.Texts texts)
+IsOfKind Kind.Texts p = (texts : List (List ℕ)) × (p ≡ Param.Texts texts)
+
+-- the texts of a list are UTF-8, as each `Text` is
+abbrev pub HoldsUtf8 : Param → Type 0
+HoldsUtf8 (Param.Texts texts) = All IsUtf8 texts
+HoldsUtf8 _ = Unit {0}

@@ -1,5 +1,5 @@
 -- The values that have a text: those of the years 0001 to 9999. The numbers are counted from 1970, as in `Dates`.
-use Rattle.std.specs.Prelude.{ℕ, ℤ, pos, negsuc}
+use Rattle.std.specs.Prelude.{ℤ, pos, negsuc}
 use Rattle.jiff_core.specs.Calendar.{IsBetween}
 use Rattle.lg_params.specs.declared.params.Param.{Param}
 

@@ -1,5 +1,5 @@
 -- When a text gives no value of a kind. This project's own.
-use Rattle.std.specs.Prelude.{ℕ, List, ℤ, Contains, FitsSigned, Option, Result, IfOk, IsErrOf, IsOkUnless, ◌↔◌, ◌⊎◌}
+use Rattle.std.specs.Prelude.{ℕ, List, ℤ, Contains, FitsSigned, Result, IfOk, IsErrOf, IsOkUnless, ◌↔◌, ◌⊎◌}
 use Rattle.std.specs.Int.{w64}
 use Rattle.lg_params.specs.Spelling.{Spells, SpellsInt}
 use Rattle.lg_params.specs.declared.fault.ReadFault.{ReadFault}

@@ -2,7 +2,7 @@ ghost use Rattle.std.specs.Prelude.{◌≡◌, ◌↔◌, ℕ, List, pos};
 ghost use Rattle.jiff_core.specs.Calendar.{IsBetween};
 ghost use Rattle.jiff_core.specs.Date.{epoch_day};
 ghost use Rattle.jiff_core.specs.declared.civil.date.Date.{Date};
-ghost use Rattle.lg_params.specs.Kinds.{IsOfKind};
+ghost use Rattle.lg_params.specs.Kinds.{IsOfKind, HoldsUtf8};
 ghost use Rattle.lg_params.specs.Ranges.{IsDay, IsWritable};
 ghost use Rattle.lg_params.specs.Spelling.{Spells};
 ghost use Rattle.lg_params.specs.Writing.{IsWritten};
@@ -11,7 +11,8 @@ ghost use Rattle.lg_params.specs.declared.params.Param.{Param};
 
 /// The written text of a value of a kind is read, and as that value.
 pub fn written_is_read()
-    ensures { (kind : Kind) (p : Param) (text : List ℕ) → IsOfKind kind p → IsWritten p text → Spells kind text p }
+    ensures { (kind : Kind) (p : Param) (text : List ℕ) → IsOfKind kind p → HoldsUtf8 p
+        → IsWritten p text → Spells kind text p }
 {}
 
 /// A text is one value of a kind at most.

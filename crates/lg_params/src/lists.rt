@@ -1,4 +1,4 @@
-ghost use Rattle.std.specs.Prelude.{◌≡◌, [], ◌∷◌, ◌++◌, List, ℕ, map, flat_map, IfOk, OnOk};
+ghost use Rattle.std.specs.Prelude.{◌≡◌, All, IsUtf8, [], ◌∷◌, ◌++◌, List, ℕ, map, flat_map, IfOk, OnOk};
 ghost use Rattle.std.specs.List.{join_by};
 ghost use Rattle.std.specs.String.{string_bytes};
 ghost use Rattle.serde_json.specs.Data.{string, array};
@@ -63,7 +63,7 @@ fn into_text(value: Value) -> Option<Text>
 
 /// The texts between brackets, each between quotes with its escapes, and a comma and a blank between each two.
 pub(crate) fn list_text(alloc: Global, texts: &[Text]) -> Result<Text, NoMemory>
-    ensures { IfOk result (λ text. text ≡ list_text texts.now) }
+    ensures { IfOk result (λ text. (text ≡ list_text texts.now) × All IsUtf8 texts.now) }
 {
     let mut list = String::from_str(alloc, "[")?;
     push_joined(alloc, &mut list, texts)?;
@@ -72,8 +72,9 @@ pub(crate) fn list_text(alloc: Global, texts: &[Text]) -> Result<Text, NoMemory>
 }
 
 fn push_joined(alloc: Global, list: &mut String, texts: &[Text]) -> Result<(), NoMemory>
-    ensures { OnOk result (string_bytes list.new
+    ensures text { OnOk result (string_bytes list.new
         ≡ string_bytes list.old ++ join_by quoted (44 ∷ 32 ∷ []) texts.now) }
+    ensures utf8 { OnOk result (All IsUtf8 texts.now) }
 {
     match texts {
         [] => Ok(()),
@@ -85,8 +86,9 @@ fn push_joined(alloc: Global, list: &mut String, texts: &[Text]) -> Result<(), N
 }
 
 fn push_others(alloc: Global, list: &mut String, texts: &[Text]) -> Result<(), NoMemory>
-    ensures { OnOk result (string_bytes list.new
+    ensures text { OnOk result (string_bytes list.new
         ≡ string_bytes list.old ++ flat_map (λ text. 44 ∷ 32 ∷ quoted text) texts.now) }
+    ensures utf8 { OnOk result (All IsUtf8 texts.now) }
 {
     for text in texts {
         list.push_str(", ")?;

@@ -8,8 +8,8 @@ ghost use Rattle.lg_params.specs.Refusing.{Answers, IsBadText, IsNoChoice, IsOut
 ghost use Rattle.lg_params.specs.Spelling.{Spells, SpellsTruth};
 ghost use Rattle.lg_params.specs.declared.params.Param.{Param};
 
-use crate::lists::read_texts;
 use crate::dates::{read_date, read_date_hour, read_date_minute, read_month, read_year};
+use crate::lists::read_texts;
 use crate::{Kind, Param, ReadFault, TextList};
 use lg_base::Text;
 use std::alloc::Global;

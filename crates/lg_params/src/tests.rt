@@ -40,6 +40,7 @@ fn assert_numbers(
 }
 
 const BAD: Result<i64, ReadFault> = Err(ReadFault::BadText);
+
 const OUT: Result<i64, ReadFault> = Err(ReadFault::OutOfRange);
 
 #[test]
@@ -179,7 +180,11 @@ fn months_and_years_fill_their_places(rt: HostRuntime) -> Result<(), Fail> {
 }
 
 fn choices(alloc: Global) -> Result<Kind, Fail> {
-    let texts = vec![in alloc; Text::copied(alloc, "low")?, Text::copied(alloc, "")?, Text::copied(alloc, "lower")?]?;
+    let texts = vec![in alloc;
+        Text::copied(alloc, "low")?,
+        Text::copied(alloc, "")?,
+        Text::copied(alloc, "lower")?,
+    ]?;
     Ok(Kind::Choice(TextList::from_vec(texts)))
 }
 
@@ -191,7 +196,12 @@ fn a_choice_is_one_of_the_declared_texts(rt: HostRuntime) -> Result<(), Fail> {
         assert_eq!(rt; rewritten(alloc, &kind, text)?.as_str(), text);
     }
     let none = Err(ReadFault::NotAChoice);
-    let rows = [("lo", none), ("Low", none), ("low ", none), ("lowest", none)];
+    let rows = [
+        ("lo", none),
+        ("Low", none),
+        ("low ", none),
+        ("lowest", none),
+    ];
     assert_numbers(&rt, alloc, &kind, &rows)?;
     let nothing = Kind::Choice(TextList::from_vec(Vec::new(alloc)));
     assert_numbers(&rt, alloc, &nothing, &[("", none)])
@@ -252,7 +262,11 @@ fn each_value_has_one_text(rt: HostRuntime) -> Result<(), Fail> {
         (Kind::Texts, "[\"\\u0041\\n\\\"\"]", "[\"A\\n\\\"\"]"),
     ];
     for (kind, text, expected) in &rows {
-        assert_eq!(rt; rewritten(alloc, kind, text)?.as_str(), *expected, "{text:?}");
+        assert_eq!(rt;
+            rewritten(alloc, kind, text)?.as_str(),
+            *expected,
+            "{text:?}"
+        );
     }
     Ok(())
 }

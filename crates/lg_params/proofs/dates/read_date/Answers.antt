@@ -1,4 +1,4 @@
-use Rattle.std.proofs.Common.{arith, sym, ◌∙◌}
+use Rattle.std.proofs.Common.{sym, ◌∙◌}
 use Rattle.lg_params.specs.Dates.{month_text}
 use Rattle.lg_params.proofs.DateLemmas.{day_below}
 use Rattle.lg_params.proofs.PlaceLemmas.{marked_at_end_same}

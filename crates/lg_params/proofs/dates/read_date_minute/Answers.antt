@@ -18,6 +18,11 @@ returns-in_err-read_date_hour c =
 pub returns : goal.returns
 returns c =
     record {
-    date = c.in_ok-date.date.now; hours = c.in_ok-read_date_hour.field-0; minute = c.in_ok-date.minute;
-    of_date = c.in_ok-read_date_hour.ensures.found; minute_in = omega arith; spelled = c.in_ok-date.ensures.1;
-    number = omega (arith, ints, c.in_ok-read_date_hour.ensures.in_range) }
+      date = c.in_ok-date.date.now;
+      hours = c.in_ok-read_date_hour.field-0;
+      minute = c.in_ok-date.minute;
+      of_date = c.in_ok-read_date_hour.ensures.found;
+      minute_in = omega arith;
+      spelled = c.in_ok-date.ensures.1;
+      number = omega (arith, ints, c.in_ok-read_date_hour.ensures.in_range);
+    }

@@ -1,4 +1,4 @@
-use Rattle.std.proofs.Common.{◌≡◌, [], ◌∷◌, ◌++◌, sym, ap, ◌∙◌, List, ℕ}
+use Rattle.std.proofs.Common.{[], ◌∷◌, ◌++◌, sym, ap, ◌∙◌, List, ℕ}
 use Rattle.std.proofs.lemmas.Slice.Eq.{strip_suffix_is}
 use Rattle.std.proofs.lemmas.Bool.Decides.{Decides-eqb}
 use Rattle.lg_params.specs.Places.{two_digits}
@@ -22,6 +22,7 @@ returns-in_err-front c =
 pub returns : goal.returns
 returns c =
     let stripped = strip_suffix_is Decides-eqb c.in_ok-marked.marked.now (c.args.mark ∷ []) c.strip_suffix.result c.strip_suffix.ensures.cases in
-    let some = rw c.in_ok-front.was at stripped in
-    (c.in_ok-marked.ensures.0,
-    c.in_ok-marked.ensures.1 ∙ (ap (λ (t : List ℕ). t ++ two_digits c.in_ok-marked.n) some ∙ sym (marked_front c.in_ok-front.front.now c.args.mark (two_digits c.in_ok-marked.n))))
+    let some = rw c.in_ok-front.was at stripped in (
+      c.in_ok-marked.ensures.0,
+      c.in_ok-marked.ensures.1 ∙ (ap (λ (t : List ℕ). t ++ two_digits c.in_ok-marked.n) some ∙ sym (marked_front c.in_ok-front.front.now c.args.mark (two_digits c.in_ok-marked.n))),
+    )

@@ -11,6 +11,6 @@ returns-in_err-front c =
 pub returns-in_err-n : goal.returns-in_err-n
 returns-in_err-n c =
     rw c.from_residual-in_err-n.ensures (λ front n small e.
-    let at = two_at_end _ front n e in 
+    let at = two_at_end _ front n e in
     c.in_err-n.ensures n small
     (between_to_end _ c.in_ok-front.front _ (omega arith) ∙ (ap (λ (k : ℕ). drop k c.args.bytes.now) (omega arith) ∙ at.1)))
