@@ -4,22 +4,28 @@ use std::alloc::Global;
 use std::process::Abort;
 use std::test::Fail;
 
-/// What reading a text comes to: the value's number and its written text, or the refusal.
+/// The number of a value, or how many texts are in it.
+fn number_of(param: &Param) -> i64 {
+    match param {
+        Param::Int(number) => *number,
+        Param::Truth(truth) => i64::from(*truth),
+        Param::Date(days) => *days,
+        Param::DateHour(hours) => *hours,
+        Param::DateMinute(minutes) => *minutes,
+        Param::Month(months) => *months,
+        Param::Year(year) => *year,
+        Param::Text(_) | Param::Choice(_) => 1,
+        Param::Texts(texts) => texts.texts().len() as i64,
+    }
+}
+
+/// The number of the value that a text is read as, or the refusal.
 fn number(alloc: Global, kind: &Kind, text: &str) -> Result<Result<i64, ReadFault>, Fail> {
     let text = Text::copied(alloc, text)?;
-    Ok(match read(alloc, kind, &text) {
-        Ok(Param::Int(number)) => Ok(number),
-        Ok(Param::Truth(truth)) => Ok(i64::from(truth)),
-        Ok(Param::Date(days)) => Ok(days),
-        Ok(Param::DateHour(hours)) => Ok(hours),
-        Ok(Param::DateMinute(minutes)) => Ok(minutes),
-        Ok(Param::Month(months)) => Ok(months),
-        Ok(Param::Year(year)) => Ok(year),
-        Ok(Param::Text(_)) => Ok(-1),
-        Ok(Param::Choice(_)) => Ok(-2),
-        Ok(Param::Texts(texts)) => Ok(texts.texts().len() as i64),
-        Err(fault) => Err(fault),
-    })
+    match read(alloc, kind, &text) {
+        Ok(param) => Ok(Ok(number_of(&param))),
+        Err(fault) => Ok(Err(fault)),
+    }
 }
 
 /// The written text of what a text is read as.
