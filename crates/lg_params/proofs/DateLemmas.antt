@@ -7,7 +7,7 @@ use Rattle.jiff_core.proofs.MarchLemmas.{day_count-early}
 use Rattle.jiff_core.proofs.DateLemmas.{civil}
 use Rattle.jiff_core.specs.Date.{epoch_day}
 use Rattle.jiff_core.specs.declared.civil.date.Date.{Date}
-use Rattle.lg_params.specs.Dates.{IsYear}
+use Rattle.lg_params.specs.Dates.{IsNamedYear}
 use Rattle.lg_params.specs.Ranges.{IsDay}
 
 -- the calendar's two ways to say that it has a day
@@ -21,7 +21,7 @@ day_count-first : day_count (pos 1) 1 1 ≡ 3_652_791
 day_count-first = day_count-early (pos 1) 10000 1 1 refl (omega arith) (omega arith) (omega arith)
 
 -- no day of these years is in front of the first
-first_day : (y m d : ℕ) → IsYear y → IsCivilDate (pos y) m d → 3_652_791 ≤ day_count (pos y) m d
+first_day : (y m d : ℕ) → IsNamedYear y → IsCivilDate (pos y) m d → 3_652_791 ≤ day_count (pos y) m d
 first_day y m d year is =
     by_lt_z (pos 1) (pos y)
     (λ later. omega (arith, day_count-first, day_count-lt_year (pos 1) 1 1 (pos y) m d (search rules) is.2.0 later))
@@ -29,7 +29,7 @@ first_day y m d year is =
     let e : y ≡ 1 = omega (arith, ints) in
     rw e (omega (arith, day_count-first, day_count-day_of_year (pos 1) m d is.2.0)))
 
-pub day_in_range : (y m d : ℕ) → IsYear y → IsCivilDate (pos y) m d → IsDay (days_from_civil (pos y) m d)
+pub day_in_range : (y m d : ℕ) → IsNamedYear y → IsCivilDate (pos y) m d → IsDay (days_from_civil (pos y) m d)
 day_in_range y m d year is =
     let low = first_day y m d year is in
     let high = day_count_bounds (pos y) m d is in

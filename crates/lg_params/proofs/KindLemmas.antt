@@ -13,7 +13,7 @@ use Rattle.lg_params.specs.declared.params.Param.{Param}
 use Rattle.lg_params.specs.Dates.{SpellsDateHour, SpellsDateMinute, SpellsMonth}
 use Rattle.lg_params.specs.Finds.{Finds}
 use Rattle.lg_params.specs.Ranges.{IsHour, IsMinute, IsMonthNumber, IsWritable}
-use Rattle.lg_params.specs.Refusing.{Answers, SpellsNothing, IsBadText, IsNoChoice, IsOutOfRange}
+use Rattle.lg_params.specs.Refusing.{Answers, SpellsNothing, IsBadText, IsNoChoice, IsPast64Bits}
 use Rattle.lg_params.specs.Spelling.{Spells}
 use Rattle.lg_params.proofs.DateLemmas.{day_in_range}
 
@@ -35,7 +35,7 @@ pub record IsPlain (kind : Kind) (text : List ℕ) : Type 0 where
   pub bad : SpellsNothing kind text → IsBadText kind text
   pub nothing : IsBadText kind text → SpellsNothing kind text
   pub no_choice : ¬ IsNoChoice kind text
-  pub in_range : ¬ IsOutOfRange kind text
+  pub in_range : ¬ IsPast64Bits kind text
 
 -- what a search found is the answer
 pub found_answers : {V : Type 0} (P : V → Type 0) (make : V → Param) (kind : Kind) (text : List ℕ) (o : Option V) (q : Option Param) (r : Result Param ReadFault) → IsPlain kind text → ((v : V) → P v → Spells kind text (make v)) → ((p : Param) → Spells kind text p → (v : V) × P v) → Finds P o → MatchOption o (q ≡ None) (λ x. IsSomeAnd q (λ p. p ≡ make x)) → r ≡ ok_or q ReadFault.BadText → Answers kind text r

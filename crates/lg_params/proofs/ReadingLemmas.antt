@@ -1,14 +1,14 @@
 -- What the parts of a date's text say of the whole.
 use Rattle.std.proofs.Common.{◌≡◌, ℕ, ◌<◌, ℤ, pos, ◌+ℤ◌, ◌*ℤ◌, List, ◌∷◌, ◌++◌, Option, Some, None, MatchOption, arith, sym, ◌∙◌, ap}
 use Rattle.jiff_core.specs.Calendar.{IsCivilDate, days_from_civil}
-use Rattle.lg_params.specs.Dates.{IsYear, IsMonth, year_text, month_text, IsMonthText, IsDateText, SpellsDate, SpellsDateHour, SpellsDateMinute}
+use Rattle.lg_params.specs.Dates.{IsNamedYear, IsMonth, year_text, month_text, IsMonthText, IsDateText, SpellsDate, SpellsDateHour, SpellsDateMinute}
 use Rattle.lg_params.specs.Finds.{Finds}
 use Rattle.lg_params.specs.Places.{two_digits}
 use Rattle.lg_params.proofs.DateLemmas.{day_below}
 use Rattle.lg_params.proofs.PlaceLemmas.{marked_at_end_same, four_digits_same}
 
 -- a text names one month
-pub month_text_same : (y m y₂ m₂ : ℕ) → IsYear y → IsMonth m → IsYear y₂ → IsMonth m₂ → month_text y m ≡ month_text y₂ m₂ → (y ≡ y₂) × (m ≡ m₂)
+pub month_text_same : (y m y₂ m₂ : ℕ) → IsNamedYear y → IsMonth m → IsNamedYear y₂ → IsMonth m₂ → month_text y m ≡ month_text y₂ m₂ → (y ≡ y₂) × (m ≡ m₂)
 month_text_same y m y₂ m₂ year month year₂ month₂ e =
     let same = marked_at_end_same (year_text y) (year_text y₂) 45 m m₂ (omega arith) (omega arith) e in
     (four_digits_same y y₂ (omega arith) (omega arith) same.0, same.1)

@@ -5,9 +5,9 @@ use Rattle.std.specs.Int.{IsInRange}
 use Rattle.jiff_core.specs.Calendar.{IsCivilDate, days_from_civil}
 use Rattle.lg_params.specs.Places.{two_digits, four_digits}
 
--- the years 0001 to 9999
-abbrev pub IsYear : ℕ → Type 0
-IsYear year = IsInRange 1 9999 year
+-- a year that four digits name, from 0001 to 9999
+abbrev pub IsNamedYear : ℕ → Type 0
+IsNamedYear year = IsInRange 1 9999 year
 
 abbrev pub IsMonth : ℕ → Type 0
 IsMonth month = IsInRange 1 12 month
@@ -29,17 +29,17 @@ abbrev pub month_number : ℕ → ℕ → ℤ
 month_number year month = (pos year -ℤ pos 1970) *ℤ pos 12 +ℤ (pos month -ℤ pos 1)
 
 pub record IsYearText (text : List ℕ) (year : ℕ) : Type 0 where
-  pub year_in : IsYear year
+  pub year_in : IsNamedYear year
   pub spelled : text ≡ year_text year
 
 pub record IsMonthText (text : List ℕ) (year month : ℕ) : Type 0 where
-  pub year_in : IsYear year
+  pub year_in : IsNamedYear year
   pub month_in : IsMonth month
   pub spelled : text ≡ month_text year month
 
 -- the calendar has the day
 pub record IsDateText (text : List ℕ) (year month day : ℕ) : Type 0 where
-  pub year_in : IsYear year
+  pub year_in : IsNamedYear year
   pub exists : IsCivilDate (pos year) month day
   pub spelled : text ≡ date_text year month day
 

@@ -29,9 +29,9 @@ IsNoChoice (Kind.Choice choices) text = ¬ Contains choices text
 IsNoChoice _ text = ⊥
 
 -- a whole number outside the 64 bits of the kind
-abbrev pub IsOutOfRange : Kind → List ℕ → Type 0
-IsOutOfRange Kind.Int text = (n : ℤ) × SpellsInt text n × (¬ FitsSigned w64 n)
-IsOutOfRange _ text = ⊥
+abbrev pub IsPast64Bits : Kind → List ℕ → Type 0
+IsPast64Bits Kind.Int text = (n : ℤ) × SpellsInt text n × (¬ FitsSigned w64 n)
+IsPast64Bits _ text = ⊥
 
 -- a value of the kind holds a text, which takes memory
 abbrev pub HoldsText : Kind → Type 0
@@ -47,5 +47,5 @@ pub record Answers (kind : Kind) (text : List ℕ) (outcome : Result Param ReadF
   pub bad_text : IsErrOf outcome ReadFault.BadText → IsBadText kind text
   pub bad_text_told : IsBadText kind text → IsErrOf outcome ReadFault.BadText ⊎ IsErrOf outcome ReadFault.NoMemory
   pub no_choice : IsErrOf outcome ReadFault.NotAChoice ↔ IsNoChoice kind text
-  pub out_of_range : IsErrOf outcome ReadFault.OutOfRange ↔ IsOutOfRange kind text
+  pub out_of_range : IsErrOf outcome ReadFault.OutOfRange ↔ IsPast64Bits kind text
   pub memory : IsErrOf outcome ReadFault.NoMemory → HoldsText kind

@@ -1,7 +1,7 @@
 ghost use Rattle.std.specs.Prelude.{◌≡◌, ◌<◌, ◌∷◌, ◌++◌, pos, OnOk, IfOk};
 ghost use Rattle.std.specs.String.{string_bytes};
 ghost use Rattle.jiff_core.specs.Date.{epoch_day};
-ghost use Rattle.lg_params.specs.Dates.{IsYear, IsMonth, IsYearText, IsMonthText, SpellsYear, SpellsMonth, SpellsDate, SpellsDateHour, SpellsDateMinute};
+ghost use Rattle.lg_params.specs.Dates.{IsNamedYear, IsMonth, IsYearText, IsMonthText, SpellsYear, SpellsMonth, SpellsDate, SpellsDateHour, SpellsDateMinute};
 ghost use Rattle.lg_params.specs.Places.{two_digits};
 ghost use Rattle.lg_params.specs.Ranges.{IsDay, IsHour, IsMinute, IsMonthNumber, IsYearNumber};
 
@@ -70,13 +70,13 @@ fn date_digits(alloc: Global, date: Date) -> Result<String, AllocError>
 fn year_of(date: Date) -> u16
     requires { IsDay (epoch_day date) }
     ensures same { date.year ≡ pos result }
-    ensures in_range { IsYear result }
+    ensures in_range { IsNamedYear result }
 {
     date.year as u16
 }
 
 fn month_digits(alloc: Global, year: u16, month: u8) -> Result<String, AllocError>
-    requires year_in { IsYear year }
+    requires year_in { IsNamedYear year }
     requires month_in { IsMonth month }
     ensures { IfOk result (λ text. IsMonthText (string_bytes text) year month) }
 {
@@ -86,7 +86,7 @@ fn month_digits(alloc: Global, year: u16, month: u8) -> Result<String, AllocErro
 }
 
 fn year_digits(alloc: Global, year: u16) -> Result<String, AllocError>
-    requires { IsYear year }
+    requires { IsNamedYear year }
     ensures { IfOk result (λ text. IsYearText (string_bytes text) year) }
 {
     let mut text = String::new(alloc);

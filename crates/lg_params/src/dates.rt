@@ -1,6 +1,6 @@
 ghost use Rattle.std.specs.Prelude.{◌≡◌, ◌<◌, ℕ, pos, MatchOption, IfSome};
 ghost use Rattle.jiff_core.specs.Calendar.{IsCivilDate, days_from_civil};
-ghost use Rattle.lg_params.specs.Dates.{IsYear, IsMonth, IsYearText, IsMonthText, SpellsYear, SpellsMonth, SpellsDate, SpellsDateHour, SpellsDateMinute};
+ghost use Rattle.lg_params.specs.Dates.{IsNamedYear, IsMonth, IsYearText, IsMonthText, SpellsYear, SpellsMonth, SpellsDate, SpellsDateHour, SpellsDateMinute};
 ghost use Rattle.lg_params.specs.Finds.{Finds};
 ghost use Rattle.lg_params.specs.Ranges.{IsDay, IsHour};
 
@@ -19,7 +19,7 @@ pub(crate) fn read_date(bytes: &[u8]) -> Option<i64>
 
 /// The number of a day, where the calendar has it.
 fn day_number(year: u16, month: u8, day: u8) -> Option<i64>
-    requires year_in { IsYear year }
+    requires year_in { IsNamedYear year }
     requires month_in { IsMonth month }
     requires day_in { day < 100 }
     ensures found { MatchOption result (¬ IsCivilDate (pos year) month day)

@@ -4,7 +4,7 @@ ghost use Rattle.std.specs.List.{list_all};
 ghost use Rattle.std.specs.Str.Parse.{IsNumeral, without_leading_sign};
 ghost use Rattle.lg_params.specs.Finds.{Finds};
 ghost use Rattle.lg_params.specs.Ranges.{IsWritable};
-ghost use Rattle.lg_params.specs.Refusing.{Answers, IsBadText, IsNoChoice, IsOutOfRange, HoldsText};
+ghost use Rattle.lg_params.specs.Refusing.{Answers, IsBadText, IsNoChoice, IsPast64Bits, HoldsText};
 ghost use Rattle.lg_params.specs.Spelling.{Spells, SpellsTruth};
 ghost use Rattle.lg_params.specs.declared.params.Param.{Param};
 
@@ -27,7 +27,7 @@ pub fn read(alloc: Global, kind: &Kind, text: &Text) -> Result<Param, ReadFault>
     ensures bad_text_told { IsBadText kind.now text.now
         → IsErrOf result ReadFault.BadText ⊎ IsErrOf result ReadFault.NoMemory }
     ensures no_choice { IsErrOf result ReadFault.NotAChoice ↔ IsNoChoice kind.now text.now }
-    ensures out_of_range { IsErrOf result ReadFault.OutOfRange ↔ IsOutOfRange kind.now text.now }
+    ensures out_of_range { IsErrOf result ReadFault.OutOfRange ↔ IsPast64Bits kind.now text.now }
     ensures memory { IsErrOf result ReadFault.NoMemory → HoldsText kind.now }
 {
     answer(alloc, kind, text)

@@ -238,6 +238,21 @@ fn a_list_is_json(rt: HostRuntime) -> Result<(), Fail> {
 }
 
 #[test]
+fn a_list_keeps_its_texts_in_order(rt: HostRuntime) -> Result<(), Fail> {
+    let text = Text::copied(rt.alloc(), "[\"b\", \"\", \"a\"]")?;
+    let Param::Texts(list) = read(rt.alloc(), &Kind::Texts, &text)? else {
+        return Err(Fail::from(ReadFault::BadText));
+    };
+    assert_eq!(rt; list.texts().len(), 3);
+    let texts = list.into_vec();
+    assert_eq!(rt; texts.len(), 3);
+    assert_eq!(rt; texts[0].as_str(), "b");
+    assert_eq!(rt; texts[1].as_str(), "");
+    assert_eq!(rt; texts[2].as_str(), "a");
+    Ok(())
+}
+
+#[test]
 fn each_value_has_one_text(rt: HostRuntime) -> Result<(), Fail> {
     let alloc = rt.alloc();
     let rows = [
