@@ -1,0 +1,71 @@
+use crate::task_id;
+use lg_base::{Name, Text};
+use std::alloc::Global;
+use std::test::Fail;
+
+fn pairs(alloc: Global, rows: &[(&str, &str)]) -> Result<Vec<(Name, Text)>, Fail> {
+    let mut pairs = Vec::new(alloc);
+    for (name, value) in rows {
+        pairs.push((
+            Name::text(alloc, name.as_bytes())?,
+            Text::copied(alloc, value)?,
+        ))?;
+    }
+    Ok(pairs)
+}
+
+// The ids are those of `hashlib.md5` over `json.dumps` and of `re.sub` in Python 3, put together as Luigi 3 does it.
+#[test]
+fn task_ids_are_those_of_luigi(rt: HostRuntime) -> Result<(), Fail> {
+    let alloc = rt.alloc();
+    let rows = [
+        ("A", [].as_slice(), "A__99914b932b"),
+        (
+            "F",
+            [
+                ("a", "0123456789abcdef"),
+                ("b", "0123456789abcdefg"),
+                ("c", "x-😀"),
+            ]
+            .as_slice(),
+            "F_0123456789abcdef_0123456789abcdef_x___bd9b897913",
+        ),
+        (
+            "F",
+            [("a", "1"), ("c", "3"), ("d", "4")].as_slice(),
+            "F_1_3_4_2b6c6cca16",
+        ),
+        (
+            "G",
+            [("a", "1"), ("c", "3"), ("d", "4")].as_slice(),
+            "G_1_3_4_2b6c6cca16",
+        ),
+        (
+            "F",
+            [("a", "ééééééééabcdefgh"), ("b", "😀😀😀😀😀😀😀😀abcdefghi")].as_slice(),
+            "F_________abcdefgh_________abcdefgh_cdeb832ad3",
+        ),
+        (
+            "F",
+            [("a", "1"), ("b", "2"), ("c", "3"), ("d", "4")].as_slice(),
+            "F_1_2_3_74a9631156",
+        ),
+        (
+            "F",
+            [("a", "1"), ("b", "2"), ("c", "3"), ("d", "5")].as_slice(),
+            "F_1_2_3_c0c31e08c3",
+        ),
+        (
+            "Été.x",
+            [("n", ""), ("w", "Z_z\n9")].as_slice(),
+            "Été.x__Z_z_9_0059ba4256",
+        ),
+    ];
+    for (family, rows, expected) in rows {
+        let family = Name::text(alloc, family.as_bytes())?;
+        let pairs = pairs(alloc, rows)?;
+        let id = task_id(alloc, &family, pairs.as_slice())?;
+        assert_eq!(rt; id.as_str(), expected, "{expected}");
+    }
+    Ok(())
+}
