@@ -1,2 +1,3 @@
+pub mod BatchId
 pub mod Digest
 pub mod TaskId

@@ -1,10 +1,12 @@
-//! The ids of tasks, in Luigi's own form, so that a user finds the same ids that Luigi gives.
+//! The ids of tasks and of batches, in Luigi's own form, so that a user finds the same ids that Luigi gives.
 #![tactic(auto)]
 
+mod batch;
 mod digest;
 mod summary;
 mod task;
 #[cfg(test)]
 mod tests;
 
+pub use batch::batch_id;
 pub use task::task_id;

@@ -1,5 +1,5 @@
-use crate::task_id;
-use lg_base::{Name, Text};
+use crate::{batch_id, task_id};
+use lg_base::{Name, TaskId, Text};
 use std::alloc::Global;
 use std::test::Fail;
 
@@ -66,6 +66,34 @@ fn task_ids_are_those_of_luigi(rt: HostRuntime) -> Result<(), Fail> {
         let pairs = pairs(alloc, rows)?;
         let id = task_id(alloc, &family, pairs.as_slice())?;
         assert_eq!(rt; id.as_str(), expected, "{expected}");
+    }
+    Ok(())
+}
+
+// The digits are those of `hashlib.md5` in Python 3, as `hashlib.md5(b"d1|d2").hexdigest()`.
+#[test]
+fn batch_ids_are_those_of_luigi(rt: HostRuntime) -> Result<(), Fail> {
+    let alloc = rt.alloc();
+    let rows = [
+        ([].as_slice(), "d41d8cd98f00b204e9800998ecf8427e"),
+        (["d1"].as_slice(), "9948c645c094247794f4c7acdbeb2bb6"),
+        (["d1", "d2"].as_slice(), "9832aff1ccbfd798334d7b70c4d687d5"),
+        (["d2", "d1"].as_slice(), "5221732b121a3e6f225da336e4367ddd"),
+        (
+            ["é", "F_1_3_4_2b6c6cca16"].as_slice(),
+            "b31974f8314675e664714a980322dbab",
+        ),
+    ];
+    for (texts, expected) in rows {
+        let mut ids = Vec::new(alloc);
+        for text in texts {
+            ids.push(TaskId::text(alloc, text.as_bytes())?)?;
+        }
+        assert_eq!(rt;
+            batch_id(alloc, ids.as_slice())?.as_str(),
+            expected,
+            "{expected}"
+        );
     }
     Ok(())
 }
