@@ -1,3 +1,4 @@
 pub mod Digits
 pub mod Joins
+pub mod Shape
 pub mod Summaries

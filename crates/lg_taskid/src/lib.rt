@@ -3,6 +3,7 @@
 
 mod batch;
 mod digest;
+pub mod laws;
 mod summary;
 mod task;
 #[cfg(test)]
