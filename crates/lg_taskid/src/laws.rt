@@ -2,6 +2,7 @@
 ghost use Rattle.std.specs.Prelude.{◌≡◌, ℕ, ◌+◌, ◌≤◌, List, [], ◌++◌, codes, length, take, drop, All, Contains};
 ghost use Rattle.std.specs.List.{AllPass};
 ghost use Rattle.hex.specs.Hex.{lower_digits};
+ghost use Rattle.lg_json.specs.Canonical.{canonical_text, AreTexts};
 ghost use Rattle.lg_taskid.specs.BatchId.{batch_id_of};
 ghost use Rattle.lg_taskid.specs.TaskId.{is_safe, summary_of, hash_of, task_id_of};
 
@@ -49,4 +50,10 @@ pub fn three_are_shown()
 pub fn batch_id_has_32_digits()
     ensures { (ids : List (List ℕ))
         → (length (batch_id_of ids) ≡ 32) × All (Contains lower_digits) (batch_id_of ids) }
+{}
+
+/// What is hashed tells the parameters apart: pairs of texts that have one canonical text are the same pairs.
+pub fn canonical_texts_tell_apart()
+    ensures { (pairs others : List (List ℕ × List ℕ)) → AreTexts pairs → AreTexts others
+        → canonical_text pairs ≡ canonical_text others → pairs ≡ others }
 {}
