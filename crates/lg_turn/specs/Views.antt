@@ -1,0 +1,49 @@
+-- What a pass knows of the one list, and where it stands. This project's own.
+use Rattle.std.specs.Prelude.{◌≡◌, ℕ, ◌==◌, cond, List, [], ◌∷◌, ◌++◌, length, drop, filter, Option, Some, None}
+use Rattle.lg_turn.specs.declared.view.Account.{Account}
+use Rattle.lg_turn.specs.declared.view.View.{View}
+use Rattle.lg_turn.specs.declared.view.Stage.{Stage}
+
+module _ {I : Type 0} where
+  -- the list begins with these entries
+  abbrev pub BeginsWith : List I → List I → Type 0
+  BeginsWith list front = (rest : List I) × (list ≡ front ++ rest)
+
+  -- the entries that the pass of this number made
+  abbrev pub of_pass : (I → ℕ) → ℕ → List I → List I
+  of_pass number n list = filter (λ e. number e == n) list
+
+module _ {I B : Type 0} where
+  abbrev pub account_of : ℕ → B → List I → List I → Account I B
+  account_of n base seen own = record { number = n; base = base; seen = seen; own = own }
+
+  -- the account of a pass that has seen and made nothing
+  abbrev pub blank : B → ℕ → Account I B
+  blank base n = account_of n base [] []
+
+  abbrev pub first_of : List (Account I B) → List (Account I B)
+  first_of [] = []
+  first_of (a ∷ rest) = a ∷ []
+
+  abbrev pub others_of : List (Account I B) → List (Account I B)
+  others_of [] = []
+  others_of (a ∷ rest) = rest
+
+  abbrev pub number_in : List (Account I B) → ℕ
+  number_in [] = 0
+  number_in (a ∷ rest) = a.number
+
+  abbrev pub base_in : List (Account I B) → Option B
+  base_in [] = None
+  base_in (a ∷ rest) = Some a.base
+
+  abbrev pub seen_in : List (Account I B) → List I
+  seen_in [] = []
+  seen_in (a ∷ rest) = a.seen
+
+  abbrev pub own_in : List (Account I B) → List I
+  own_in [] = []
+  own_in (a ∷ rest) = a.own
+
+  abbrev pub view_of : List (Account I B) → Stage → View I B
+  view_of accounts stage = record { accounts = accounts; stage = stage }

@@ -1,0 +1,59 @@
+//! The rule of the table under a turn, and its steps.
+ghost use Rattle.lg_turn.specs.Rule.{IsKept};
+ghost use Rattle.lg_turn.specs.Steps.{beginning, Draws, Looks, Advances, cut_off, left_over, put_together, spent};
+
+use crate::keeps::Keeps;
+use crate::view::View;
+use atomic_table::{Join, Play, Split, TableRule};
+use std::snapshot::Snapshot;
+
+/// What the table is told once: how many passes there are, and the value that the list begins with.
+pub struct Terms<V> {
+    pub callers: u32,
+    pub first: Snapshot<V>,
+}
+
+/// The rule: there is one list, and what each pass knows of it is true.
+pub struct OneList;
+
+impl<V: Keeps> TableRule<Option<V>, View<V::Item, V::Base>, Terms<V>> for OneList {
+    ghost holds = { λ terms. IsKept V.items V.number V.base terms.callers (V.base terms.first.value) };
+
+    ghost first = { λ terms. beginning terms.callers (V.base terms.first.value) };
+}
+
+pub struct Draw;
+
+impl<V: Keeps> Play<Option<V>, View<V::Item, V::Base>> for Draw {
+    ghost then = { Draws V.items V.number V.base };
+}
+
+pub struct Look;
+
+impl<V: Keeps> Play<Option<V>, View<V::Item, V::Base>> for Look {
+    ghost then = { Looks V.items V.number V.base };
+}
+
+pub struct Advance;
+
+impl<V: Keeps> Play<Option<V>, View<V::Item, V::Base>> for Advance {
+    ghost then = { Advances V.items V.number V.base };
+}
+
+/// Cuts one pass off the first seat.
+pub struct Deal;
+
+impl<I, B> Split<View<I, B>> for Deal {
+    ghost left = { left_over };
+
+    ghost right = { cut_off };
+}
+
+/// Puts all passes together again.
+pub struct Collect;
+
+impl<I, B> Join<View<I, B>> for Collect {
+    ghost both = { put_together };
+
+    ghost spent = { spent };
+}
