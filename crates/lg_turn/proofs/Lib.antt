@@ -1,0 +1,6 @@
+pub mod Sums
+pub mod Tests
+pub mod Parts
+pub mod Accounts
+pub mod Drawing
+pub mod Looking

@@ -1,6 +1,6 @@
 -- The rule of a turn: what is true of the table between any two steps. This project's own.
 -- Word 0 is the next ticket and word 1 the ticket that is served, both modulo 2 ^ 64. The one slot has the value.
-use Rattle.std.specs.Prelude.{◌≡◌, ℕ, ◌+◌, ◌%◌, ◌^◌, ◌<◌, ◌≤◌, ◌==◌, cond, ◌⊎◌, List, [], ◌∷◌, length, Option, Some, All, sum_by}
+use Rattle.std.specs.Prelude.{◌≡◌, ℕ, ◌+◌, ◌%◌, ◌^◌, ◌<◌, ◌≤◌, ◌==◌, if◌then◌else◌, ◌⊎◌, List, [], ◌∷◌, length, Option, Some, All, sum_by}
 use mathlib.Core.Option.{Option as Maybe, some, none}
 use lib.ListN.{get_elem?}
 use Rattle.atomic_table.specs.Table.{State}
@@ -19,8 +19,8 @@ ticket_count (Holds t) = 1
 -- 1 for a stage with this very ticket
 abbrev pub same_ticket : ℕ → Stage → ℕ
 same_ticket t Idle = 0
-same_ticket t (Waits u) = cond (t == u) 1 0
-same_ticket t (Holds u) = cond (t == u) 1 0
+same_ticket t (Waits u) = (if t == u then 1 else 0)
+same_ticket t (Holds u) = (if t == u then 1 else 0)
 
 -- 1 for a stage with the value out
 abbrev pub value_count : Stage → ℕ
@@ -35,7 +35,7 @@ module _ {I B : Type 0} where
 
   -- how many of them have this number
   abbrev pub with_number : ℕ → View I B → ℕ
-  with_number n v = sum_by (λ (a : Account I B). cond (a.number == n) 1 0) v.accounts
+  with_number n v = sum_by (λ (a : Account I B). (if a.number == n then 1 else 0)) v.accounts
 
   abbrev pub tickets_of : View I B → ℕ
   tickets_of v = ticket_count v.stage

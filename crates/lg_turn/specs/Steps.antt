@@ -36,11 +36,15 @@ module _ {I B : Type 0} where
   abbrev pub after_give : List I → Account I B → Account I B
   after_give list a = account_of a.number a.base list (a.own ++ drop (length a.seen) list)
 
-module _ {V I B : Type 0} (items : V → List I) (number : I → ℕ) (base : V → B) where
-  -- a ticket was drawn, of which the word showed the lower bits
-  abbrev pub Draws : Step (Option V) → Me (Option V) (View I B) → ℕ → Me (Option V) (View I B) → Type 0
-  Draws st me found me' = (t : ℕ) × (found ≡ t % 2 ^ 64) × (me' ≡ (view_of me.0.accounts (Waits t), me.1))
+module _ {V I B : Type 0} where
+  -- a ticket was drawn, of which these are the lower bits
+  abbrev pub HasDrawn : Me (Option V) (View I B) → ℕ → Me (Option V) (View I B) → Type 0
+  HasDrawn me found me' = (t : ℕ) × (found ≡ t % 2 ^ 64) × (me' ≡ (view_of me.0.accounts (Waits t), me.1))
 
+  abbrev pub Draws : Step (Option V) → Me (Option V) (View I B) → ℕ → Me (Option V) (View I B) → Type 0
+  Draws st me found me' = HasDrawn me found me'
+
+module _ {V I B : Type 0} (items : V → List I) (number : I → ℕ) (base : V → B) where
   -- the value came out, and it fits what was known before
   abbrev pub Takes : ℕ → Me (Option V) (View I B) → Me (Option V) (View I B) → Type 0
   Takes t me me' =

@@ -1,8 +1,10 @@
 -- What a pass knows of the one list, and where it stands. This project's own.
-use Rattle.std.specs.Prelude.{◌≡◌, ℕ, ◌==◌, cond, List, [], ◌∷◌, ◌++◌, length, drop, filter, Option, Some, None}
+use Rattle.std.specs.Prelude.{◌≡◌, ℕ, ◌==◌, cond, List, [], ◌∷◌, ◌++◌, length, drop, filter, Option, Some, None, Bool, true, false, ◌&&◌, is_none}
+use Rattle.atomic_table.specs.Table.{Me}
 use Rattle.lg_turn.specs.declared.view.Account.{Account}
 use Rattle.lg_turn.specs.declared.view.View.{View}
 use Rattle.lg_turn.specs.declared.view.Stage.{Stage}
+use Rattle.lg_turn.specs.declared.view.Stage.TheVariants.{Idle, Waits, Holds}
 
 module _ {I : Type 0} where
   -- the list begins with these entries
@@ -47,3 +49,22 @@ module _ {I B : Type 0} where
 
   abbrev pub view_of : List (Account I B) → Stage → View I B
   view_of accounts stage = record { accounts = accounts; stage = stage }
+
+abbrev pub has_no_slot : {V : Type 0} → List (ℕ × Option V) → Bool
+has_no_slot [] = true
+has_no_slot (x ∷ rest) = false
+
+-- the one slot is carried, and nothing lies in it
+abbrev pub has_empty_slot : {V : Type 0} → List (ℕ × Option V) → Bool
+has_empty_slot [] = false
+has_empty_slot (x ∷ []) = x.0 == 0 && is_none x.1
+has_empty_slot (x ∷ y ∷ rest) = false
+
+abbrev pub is_settled_at : {V : Type 0} → Stage → List (ℕ × Option V) → Bool
+is_settled_at Idle carried = has_no_slot carried
+is_settled_at (Waits t) carried = false
+is_settled_at (Holds t) carried = has_empty_slot carried
+
+-- between two calls a pass is away, or it has the turn and its caller the value
+abbrev pub is_settled : {V I B : Type 0} → Me (Option V) (View I B) → Bool
+is_settled me = is_settled_at me.0.stage me.1

@@ -1,18 +1,18 @@
 //! A pass, by which one caller takes the turn.
+ghost use Rattle.std.specs.Prelude.{◌≡◌, length, IsTrue};
+ghost use Rattle.lg_turn.specs.Views.{number_in, is_settled};
 
 use crate::keeps::Keeps;
 use crate::view::View;
 use atomic_table::Seat;
 
-/// The right of one caller to take the turn.
+/// The right of one caller to take the turn. A contract reads of it its number, the base of its turn, the entries that
+/// it has seen, those of them that are its own, and whether it has the turn.
+#[derive(Drop)]
 pub struct Pass<V: Keeps> {
-    number: u32,
-    seat: Seat<Option<V>, View<V::Item, V::Base>>,
-}
-
-impl<V: Keeps> Pass<V> {
-    /// The number of the pass.
-    pub fn number(&self) -> u32 {
-        self.number
-    }
+    pub(crate) number: u32,
+    pub(crate) seat: Seat<Option<V>, View<V::Item, V::Base>>,
+    ghost one: { length seat.me.0.accounts ≡ 1 },
+    ghost numbered: { number_in seat.me.0.accounts ≡ number },
+    ghost settled: { IsTrue (is_settled seat.me) },
 }

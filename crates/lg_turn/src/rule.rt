@@ -25,7 +25,7 @@ impl<V: Keeps> TableRule<Option<V>, View<V::Item, V::Base>, Terms<V>> for OneLis
 pub struct Draw;
 
 impl<V: Keeps> Play<Option<V>, View<V::Item, V::Base>> for Draw {
-    ghost then = { Draws V.items V.number V.base };
+    ghost then = { Draws };
 }
 
 pub struct Look;

@@ -1,12 +1,38 @@
 //! The turn.
+ghost use Rattle.std.specs.Prelude.{◌≡◌, ◌<◌, ◌≤◌};
+
+mod close;
+mod give;
+mod make;
+mod take;
 
 use crate::keeps::Keeps;
 use crate::rule::{OneList, Terms};
 use crate::view::View;
-use atomic_table::Table;
+use atomic_table::{Seat, Shared, Table};
 use std::alloc::Global;
 
-/// A lock.
+type Seating<V> = Seat<Option<V>, View<<V as Keeps>::Item, <V as Keeps>::Base>>;
+
+type Words<V> = Shared<Option<V>, View<<V as Keeps>::Item, <V as Keeps>::Base>, Terms<V>, OneList>;
+
+type Shelf<V> = Table<
+    Option<V>,
+    View<<V as Keeps>::Item, <V as Keeps>::Base>,
+    Terms<V>,
+    OneList,
+    Global,
+>;
+
+/// The word that counts the tickets that were drawn.
+const TICKET: usize = 0;
+
+/// The word that has the ticket which is served.
+const SERVING: usize = 1;
+
+/// A lock round one value, which passes take in the order in which they drew their tickets.
 pub struct Turn<V: Keeps> {
-    table: Table<Option<V>, View<V::Item, V::Base>, Terms<V>, OneList, Global>,
+    table: Shelf<V>,
+    ghost sized: { (table.shared.table_id.words ≡ 2) × (table.shared.table_id.slots ≡ 1) },
+    ghost few: { (0 < table.shared.key.callers) × (table.shared.key.callers ≤ 65) },
 }

@@ -1,0 +1,32 @@
+-- Accounts of passes that see more.
+use Rattle.std.proofs.Common.{◌≡◌, ℕ, zero, suc, ◌+◌, ◌<◌, List, [], ◌∷◌, ◌++◌, map, length, arith, ap, sym, refl, ◌∙◌, subst}
+use Rattle.std.specs.Prelude.{◌==◌, if◌then◌else◌}
+use Rattle.std.specs.List.{sum_by, All}
+use Rattle.std.proofs.lemmas.List.{append-nil}
+use Rattle.std.proofs.lemmas.List.Sums.{sum_by-cons}
+use Rattle.std.proofs.lemmas.List.Elements.{All-map, All-weaker}
+use Rattle.lg_turn.specs.declared.view.Account.{Account}
+use Rattle.lg_turn.specs.Views.{seen_in}
+use Rattle.lg_turn.specs.Rule.{Fits}
+use Rattle.lg_turn.specs.Steps.{after_take}
+
+module _ {I B : Type 0} where
+  -- the numbers stay where each account keeps its own
+  pub numbers_map : (f : Account I B → Account I B) → ((a : Account I B) → (f a).number ≡ a.number) → (n : ℕ) (accounts : List (Account I B))
+      → sum_by (λ (a : Account I B). if a.number == n then 1 else 0) (map f accounts) ≡ sum_by (λ (a : Account I B). if a.number == n then 1 else 0) accounts
+  numbers_map f same n [] = refl
+  numbers_map f same n (a ∷ rest) =
+      let one : Account I B → ℕ = λ a. if a.number == n then 1 else 0 in
+      let here : one (f a) ≡ one a = ap (λ (m : ℕ). if m == n then 1 else 0) (same a) in
+      omega (arith, sum_by-cons one (f a) (map f rest), sum_by-cons one a rest, numbers_map f same n rest)
+
+  pub seen_in-after_take : (list : List I) (accounts : List (Account I B)) → 0 < length accounts → seen_in (map (after_take list) accounts) ≡ list
+  seen_in-after_take list [] h = absurd (omega arith)
+  seen_in-after_take list (a ∷ rest) h = refl
+
+module _ {V I B : Type 0} (items : V → List I) (number : I → ℕ) (base : V → B) where
+  -- who has seen the whole list fits it
+  pub fits_after_take : (origin : B) (list : List I) (accounts : List (Account I B)) → All (Fits items number base origin list) accounts → All (Fits items number base origin list) (map (after_take list) accounts)
+  fits_after_take origin list accounts fits = All-map (Fits items number base origin list) (after_take list) accounts
+      (All-weaker (Fits items number base origin list) (λ (a : Account I B). Fits items number base origin list (after_take list a))
+      (λ a f. record { base_is = f.base_is; begins = ([], sym (append-nil list)); own_is = f.own_is }) accounts fits)

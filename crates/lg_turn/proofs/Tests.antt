@@ -1,0 +1,9 @@
+-- Tests on numbers, as the counts of the rule make them.
+use Rattle.std.proofs.Common.{◌≡◌, ◌≢◌, ℕ, eqb, eq-eqb, ne_eqb, ap, cond, Bool}
+use Rattle.std.specs.Prelude.{◌==◌}
+
+pub one_if_same : (t u : ℕ) → t ≡ u → ◌≡◌ {A = ℕ} (cond (t == u) 1 0) 1
+one_if_same t u e = ap {B = ℕ} (λ (b : Bool). cond b 1 0) (eq-eqb t u e)
+
+pub none_if_other : (t u : ℕ) → t ≢ u → ◌≡◌ {A = ℕ} (cond (t == u) 1 0) 0
+none_if_other t u n = ap {B = ℕ} (λ (b : Bool). cond b 1 0) (ne_eqb t u n)

@@ -1,0 +1,42 @@
+-- What a contract says of a pass and of its turn. This project's own.
+use Rattle.std.specs.Prelude.{◌≡◌, ℕ, ◌≤◌, List, [], ◌++◌, length, All, Option, Some}
+use Rattle.lg_turn.specs.declared.keeps.Keeps.{Ghosts}
+use Rattle.lg_turn.specs.declared.pass.Pass.{Pass}
+use Rattle.lg_turn.specs.declared.turn.Turn.{Turn}
+use Rattle.lg_turn.specs.declared.view.Stage.TheVariants.{Idle, Holds}
+use Rattle.lg_turn.specs.Views.{BeginsWith, of_pass, number_in, base_in, seen_in, own_in}
+
+module _ {V I B : Type 0} {G : Ghosts V I B} where
+  abbrev pub number_of : Pass V I B G → ℕ
+  number_of pass = pass.number
+
+  -- the base of the pass's turn
+  abbrev pub base_of : Pass V I B G → Option B
+  base_of pass = base_in pass.seat.me.0.accounts
+
+  -- the entries that the pass has seen
+  abbrev pub seen_by : Pass V I B G → List I
+  seen_by pass = seen_in pass.seat.me.0.accounts
+
+  -- the entries that the pass made
+  abbrev pub own_of : Pass V I B G → List I
+  own_of pass = own_in pass.seat.me.0.accounts
+
+  -- the pass is away from the turn
+  abbrev pub IsAway : Pass V I B G → Type 0
+  IsAway pass = pass.seat.me.0.stage ≡ Idle
+
+  -- the pass has the turn, and its caller the value
+  abbrev pub HasTurn : Pass V I B G → Type 0
+  HasTurn pass = (ticket : ℕ) × (pass.seat.me.0.stage ≡ Holds ticket)
+
+  abbrev pub IsPassOf : Turn V I B → Pass V I B G → Type 0
+  IsPassOf turn pass = pass.seat.table_id ≡ turn.table.shared.table_id
+
+module _ {V I B : Type 0} where
+  abbrev pub callers_of : Turn V I B → ℕ
+  callers_of turn = turn.table.shared.key.callers
+
+  -- the base that the value had at the start
+  abbrev pub origin_of : (V → B) → Turn V I B → B
+  origin_of base turn = base turn.table.shared.key.first.value
