@@ -4,3 +4,5 @@ pub mod Parts
 pub mod Accounts
 pub mod Drawing
 pub mod Looking
+pub mod Entries
+pub mod Advancing

@@ -1,0 +1,137 @@
+-- An advance keeps the rule: the value comes home with the entries of the pass that had it, and the next ticket is served.
+use Rattle.std.proofs.Common.{◌≡◌, ◌≢◌, ◌⊎◌, ℕ, zero, suc, ◌+◌, ◌%◌, ◌^◌, ◌<◌, ◌≤◌, List, [], ◌∷◌, ◌++◌, length, set, get_or, map, arith, ap, sym, refl, ◌∙◌, subst, inl, inr, ⊎_elim, Option, Some}
+use mathlib.Core.Option.{Option as Maybe, some, none, some-injective}
+use mathlib.Core.Logic.{dite}
+use native.Mathlib.Decide.{ℕ_discrete, dec_lt, dec_le}
+use lib.ListN.{get_elem?}
+use Rattle.std.specs.Prelude.{◌==◌, if◌then◌else◌}
+use Rattle.std.specs.List.{sum_by, All}
+use Rattle.std.proofs.Math.Nat.{mod-add-mod}
+use Rattle.std.proofs.lemmas.List.Elements.{All-nil, All-cons, All-head, All-append, All-weaker}
+use Rattle.atomic_table.specs.Table.{State, Me, Act, step, gives, stepped, carried_after, Valid, Allows}
+use Rattle.lg_turn.specs.declared.view.Account.{Account}
+use Rattle.lg_turn.specs.declared.view.View.{View}
+use Rattle.lg_turn.specs.declared.view.Stage.{Stage}
+use Rattle.lg_turn.specs.declared.view.Stage.TheVariants.{Idle, Waits, Holds}
+use Rattle.lg_turn.specs.Views.{view_of, account_of, seen_in}
+use Rattle.lg_turn.specs.Rule.{passes_of, with_number, values_of, tickets_of, with_ticket, ticket_count, same_ticket, value_count, Stands, Slot, Fits, Knows, IsKept}
+use Rattle.lg_turn.specs.Steps.{Advances, after_give}
+use Rattle.lg_turn.proofs.Sums.{sum_by_set, each_set, part-le-sum_by, two_parts-le-sum_by}
+use Rattle.lg_turn.proofs.Tests.{one_if_same, none_if_other}
+use Rattle.lg_turn.proofs.Parts.{sum_stays, passes_stay, numbers_stay}
+use Rattle.lg_turn.proofs.Entries.{numbers_other, others_fit, giver_fits}
+
+-- after an advance the words show the next ticket that is served
+words_advanced : (ws : List ℕ) (ticket serving : ℕ) → ws ≡ ticket % 2 ^ 64 ∷ serving % 2 ^ 64 ∷ [] → set ws 1 ((get_or ws 1 0 + 1) % 2 ^ 64) ≡ ticket % 2 ^ 64 ∷ (serving + 1) % 2 ^ 64 ∷ []
+words_advanced ws ticket serving e = ap (λ (l : List ℕ). set l 1 ((get_or l 1 0 + 1) % 2 ^ 64)) e ∙ ap (λ (n : ℕ). ticket % 2 ^ 64 ∷ n ∷ []) (mod-add-mod serving (2 ^ 64) 1)
+
+-- the value that a pass carries is one
+same_value : {V : Type 0} (x y : V) → ◌≡◌ {A = List (ℕ × Option V)} ((0, Some x) ∷ []) ((0, Some y) ∷ []) → x ≡ y
+same_value {V} x y e = let pair : ◌≡◌ {A = ℕ × Option V} (0, Some x) (0, Some y) = cc in let both : Some x ≡ Some y = ap (λ (z : ℕ × Option V). z.1) pair in cc
+
+module _ {V I B : Type 0} (items : V → List I) (number : I → ℕ) (base : V → B) where
+  -- who has no value does not mind which ticket is served, nor how long the list is
+  stands_on : (list list' : List I) (serving serving' : ℕ) (accounts : List (Account I B)) (stage : Stage) → value_count stage ≡ 0 → Stands items number base list serving accounts stage → Stands items number base list' serving' accounts stage
+  stands_on list list' serving serving' accounts Idle none_out h = tt
+  stands_on list list' serving serving' accounts (Waits t) none_out h = h
+  stands_on list list' serving serving' accounts (Holds t) none_out h = absurd (omega arith)
+
+  module _ (callers : ℕ) (origin : B) where
+    abbrev Rule : State (Option V) (View I B) → Type 0
+    Rule = IsKept items number base callers origin
+
+    module _ (s : State (Option V) (View I B)) (k : Rule s) (id n : ℕ) (own new : List I) (own_new : All (λ e. number e ≡ n) new) (at : get_elem? s.views id ≡ some (view_of (account_of n origin k.list own ∷ []) (Holds k.serving))) where
+      abbrev mine : Account I B
+      mine = account_of n origin k.list own
+
+      abbrev before : View I B
+      before = view_of (mine ∷ []) (Holds k.serving)
+
+      abbrev after : View I B
+      after = view_of (after_give (k.list ++ new) mine ∷ []) Idle
+
+      my_number : with_number n before ≡ 1
+      my_number = omega (arith, one_if_same n n refl)
+
+      my_ticket : with_ticket k.serving before ≡ 1
+      my_ticket = one_if_same k.serving k.serving refl
+
+      -- nobody else has the value
+      others_hold_none : (j : ℕ) (u : View I B) → j ≢ id → get_elem? s.views j ≡ some u → values_of u ≡ 0
+      others_hold_none j u other e =
+          let two = two_parts-le-sum_by values_of s.views j id u before other e at in
+          let most : sum_by values_of s.views ≤ 1 = ⊎_elim (λ home. let z = home.4 in omega arith) (λ out. let z = out.1 in omega arith) k.slot in omega arith
+
+      -- nor its number
+      others_numbered : (j : ℕ) (u : View I B) → j ≢ id → get_elem? s.views j ≡ some u → All (λ (a : Account I B). a.number ≢ n) u.accounts
+      others_numbered j u other e =
+          let two = two_parts-le-sum_by (with_number n) s.views j id u before other e at in
+          let most = (k.numbers n).0 in let one = my_number in
+          numbers_other n u.accounts (omega arith)
+
+      others_know : (j : ℕ) (u : View I B) → j ≢ id → get_elem? s.views j ≡ some u → Knows items number base origin (k.list ++ new) (k.serving + 1) u
+      others_know j u other e =
+          let known = k.each_pass j u e in record {
+            fits = others_fit items number base origin k.list new n own_new u.accounts (others_numbered j u other e) known.fits;
+            stands = stands_on k.list (k.list ++ new) k.serving (k.serving + 1) u.accounts u.stage (others_hold_none j u other e) known.stands;
+          }
+
+      i_know : Knows items number base origin (k.list ++ new) (k.serving + 1) after
+      i_know =
+          let fit = All-head (Fits items number base origin k.list) mine [] (k.each_pass id before at).fits in record {
+            fits = All-cons (Fits items number base origin (k.list ++ new)) _ [] (giver_fits items number base origin k.list new n own_new own fit.own_is) (All-nil (Fits items number base origin (k.list ++ new)));
+            stands = tt;
+          }
+
+      comes_home : (value : V) → items value ≡ k.list ++ new → base value ≡ origin → Slot items number base origin (k.list ++ new) (set s.homes 0 (some (Some value))) (sum_by values_of (set s.views id after))
+      comes_home value is over =
+          let held = part-le-sum_by values_of s.views id before at in
+          let moved : sum_by values_of (set s.views id after) + 1 ≡ sum_by values_of s.views + 0 = sum_by_set values_of s.views id before after at in
+          ⊎_elim (λ home. let z = home.4 in absurd (omega arith)) (λ out. let z = out.1 in inl (value, ap (λ (hs : List (Maybe (Option V))). set hs 0 (some (Some value))) out.0, is, over, omega arith)) k.slot
+
+      entered_longer : All (λ e. number e < callers) (k.list ++ new)
+      entered_longer =
+          let one = my_number in let part = part-le-sum_by (with_number n) s.views id before at in
+          let small : n < callers = dite (dec_lt n callers) (λ h. h) (λ no. let z = (k.numbers n).1 (omega arith) in absurd (omega arith)) in
+          All-append (λ e. number e < callers) k.list new k.entered (All-weaker (λ e. number e ≡ n) (λ e. number e < callers) (λ e h. omega arith) new own_new)
+
+      apart_advanced : (t : ℕ) → (sum_by (with_ticket t) (set s.views id after) ≤ 1) × (t < k.serving + 1 → sum_by (with_ticket t) (set s.views id after) ≡ 0) × (k.ticket ≤ t → sum_by (with_ticket t) (set s.views id after) ≡ 0)
+      apart_advanced t =
+          let moved : sum_by (with_ticket t) (set s.views id after) + with_ticket t before ≡ sum_by (with_ticket t) s.views + 0 = sum_by_set (with_ticket t) s.views id before after at in
+          let b = k.apart t in
+          dite (ℕ_discrete t k.serving)
+              (λ same. let one : with_ticket t before ≡ 1 = one_if_same t k.serving same in let most = b.0 in (omega arith, (λ h. omega arith), λ h. omega arith))
+              (λ other. let no : with_ticket t before ≡ 0 = none_if_other t k.serving other in let most = b.0 in (omega arith, (λ h. let z = b.1 (omega arith) in omega arith), λ h. let z = b.2 h in omega arith))
+
+      advanced : (value : V) → items value ≡ k.list ++ new → base value ≡ origin → Rule (stepped s 1 ((get_or s.words 1 0 + 1) % 2 ^ 64) id ((0, Some value) ∷ []) after gives)
+      advanced value is over = record {
+        list = k.list ++ new;
+        serving = k.serving + 1;
+        ticket = k.ticket;
+        words = words_advanced s.words k.ticket k.serving k.words;
+        slot = comes_home value is over;
+        each_pass = each_set (λ j u. Knows items number base origin (k.list ++ new) (k.serving + 1) u) s.views id after i_know others_know;
+        few = k.few;
+        passes = passes_stay s.views id before after at callers refl k.passes;
+        numbers = numbers_stay s.views id before after at callers (λ m. refl) k.numbers;
+        entered = entered_longer;
+        drawn = (let moved : sum_by tickets_of (set s.views id after) + 1 ≡ sum_by tickets_of s.views + 0 = sum_by_set tickets_of s.views id before after at in let d = k.drawn in omega arith);
+        apart = apart_advanced;
+      }
+
+    pub advances : (slots id t n : ℕ) (over : B) (seen own new : List I) (value : V) → base value ≡ over → items value ≡ seen ++ new → All (λ e. number e ≡ n) new
+        → Allows Rule slots id (view_of (account_of n over seen own ∷ []) (Holds t), (0, Some value) ∷ []) 1 (λ m. (m + 1) % 2 ^ 64) (Advances items number base (step slots 1 1 0 none) (view_of (account_of n over seen own ∷ []) (Holds t), (0, Some value) ∷ []))
+    advances slots id t n over seen own new value based is own_new s k sized at small =
+        let known = k.each_pass id (view_of (account_of n over seen own ∷ []) (Holds t)) at in
+        let over_is : over ≡ origin = (All-head (Fits items number base origin k.list) (account_of n over seen own) [] known.fits).base_is in
+        let t_is : t ≡ k.serving = known.stands.1 in
+        let seen_is : seen ≡ k.list = known.stands.2 in
+        let at' : get_elem? s.views id ≡ some (view_of (account_of n origin k.list own ∷ []) (Holds k.serving)) = at ∙ (λ i. some (view_of (account_of n (over_is i) (seen_is i) own ∷ []) (Holds (t_is i)))) in
+        let longer : items value ≡ k.list ++ new = is ∙ ap (λ (l : List I). l ++ new) seen_is in (
+          after s k id n own new own_new at',
+          gives,
+          tt,
+          advanced s k id n own new own_new at' value longer (based ∙ over_is),
+          λ value' held. let same = same_value value value' held in let back : k.list ++ new ≡ items value' = sym longer ∙ ap items same in
+              λ i. (view_of (after_give (back i) (account_of n (sym over_is i) (sym seen_is i) own) ∷ []) Idle, []),
+        )

@@ -1,0 +1,58 @@
+-- Entries of one pass, behind a list that others know too.
+use Rattle.std.proofs.Common.{◌≡◌, ◌≢◌, ℕ, zero, suc, ◌+◌, ◌<◌, ◌≤◌, List, [], ◌∷◌, ◌++◌, map, length, drop, get_or, arith, ap, sym, refl, ◌∙◌, subst, append_assoc, eq-eqb, ne_eqb, Bool, cond}
+use mathlib.Core.Logic.{dite}
+use native.Mathlib.Decide.{ℕ_discrete}
+use Rattle.std.specs.Prelude.{◌==◌, if◌then◌else◌}
+use Rattle.std.specs.List.{sum_by, All, filter}
+use Rattle.std.proofs.Math.Seq.{drop-append_seam}
+use Rattle.std.proofs.lemmas.List.{append-nil}
+use Rattle.std.proofs.lemmas.List.Sums.{sum_by-cons}
+use Rattle.std.proofs.lemmas.List.Elements.{All-nil, All-cons, All-head, All-tail, All-append, All-weaker, filter-append}
+use Rattle.lg_turn.specs.declared.view.Account.{Account}
+use Rattle.lg_turn.specs.Views.{of_pass, account_of}
+use Rattle.lg_turn.specs.Rule.{Fits}
+use Rattle.lg_turn.specs.Steps.{after_give}
+use Rattle.lg_turn.proofs.Tests.{one_if_same}
+
+module _ {I : Type 0} (number : I → ℕ) where
+  -- entries of one number are all its own
+  pub of_pass-own : (n : ℕ) (list : List I) → All (λ e. number e ≡ n) list → of_pass number n list ≡ list
+  of_pass-own n [] h = refl
+  of_pass-own n (e ∷ rest) h =
+      let here : number e ≡ n = All-head (λ (x : I). number x ≡ n) e rest h in
+      ap (λ (b : Bool). cond b (e ∷ of_pass number n rest) (of_pass number n rest)) (eq-eqb (number e) n here) ∙ ap (λ (l : List I). e ∷ l) (of_pass-own n rest (All-tail (λ (x : I). number x ≡ n) e rest h))
+
+  -- and none of them another's
+  pub of_pass-other : (n m : ℕ) (list : List I) → m ≢ n → All (λ e. number e ≡ n) list → of_pass number m list ≡ []
+  of_pass-other n m [] other h = refl
+  of_pass-other n m (e ∷ rest) other h =
+      let here : number e ≡ n = All-head (λ (x : I). number x ≡ n) e rest h in
+      ap (λ (b : Bool). cond b (e ∷ of_pass number m rest) (of_pass number m rest)) (ne_eqb (number e) m (λ same. other (sym same ∙ here))) ∙ of_pass-other n m rest other (All-tail (λ (x : I). number x ≡ n) e rest h)
+
+module _ {I B : Type 0} where
+  -- where no account has the number, each has another
+  pub numbers_other : (n : ℕ) (accounts : List (Account I B)) → sum_by (λ (a : Account I B). if a.number == n then 1 else 0) accounts ≡ 0 → All (λ (a : Account I B). a.number ≢ n) accounts
+  numbers_other n [] h = All-nil (λ (a : Account I B). a.number ≢ n)
+  numbers_other n (a ∷ rest) h =
+      let one : Account I B → ℕ = λ a. if a.number == n then 1 else 0 in
+      let both = sum_by-cons one a rest in
+      All-cons (λ (a : Account I B). a.number ≢ n) a rest (λ same. let this : one a ≡ 1 = one_if_same a.number n same in absurd (omega arith)) (numbers_other n rest (omega arith))
+
+module _ {V I B : Type 0} (items : V → List I) (number : I → ℕ) (base : V → B) (origin : B) (list new : List I) (n : ℕ) (own_new : All (λ e. number e ≡ n) new) where
+  -- what other passes know of the list they know of the longer one
+  pub others_fit : (accounts : List (Account I B)) → All (λ (a : Account I B). a.number ≢ n) accounts → All (Fits items number base origin list) accounts → All (Fits items number base origin (list ++ new)) accounts
+  others_fit accounts other fits k d inside =
+      let f = fits k d inside in
+      let a = get_or accounts k d in record {
+        base_is = f.base_is;
+        begins = (f.begins.0 ++ new, ap (λ (l : List I). l ++ new) f.begins.1 ∙ append_assoc a.seen f.begins.0 new);
+        own_is = filter-append (λ e. number e == a.number) list new ∙ ap (λ (l : List I). of_pass number a.number list ++ l) (of_pass-other number n a.number new (other k d inside) own_new) ∙ append-nil (of_pass number a.number list) ∙ f.own_is;
+      }
+
+  -- the pass that gives it back knows it whole
+  pub giver_fits : (own : List I) → of_pass number n list ≡ own → Fits items number base origin (list ++ new) (after_give (list ++ new) (account_of n origin list own))
+  giver_fits own is = record {
+    base_is = refl;
+    begins = ([], sym (append-nil (list ++ new)));
+    own_is = filter-append (λ e. number e == n) list new ∙ (λ i. is i ++ of_pass-own number n new own_new i) ∙ ap (λ (l : List I). own ++ l) (sym (drop-append_seam list new));
+  }
