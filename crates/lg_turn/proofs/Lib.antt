@@ -2,7 +2,10 @@ pub mod Sums
 pub mod Tests
 pub mod Parts
 pub mod Accounts
+pub mod Opening
+pub mod Dealing
 pub mod Drawing
 pub mod Looking
 pub mod Entries
 pub mod Advancing
+pub mod Closing

@@ -1,0 +1,80 @@
+-- Passes that are cut off a seat, or put together in one, keep the rule.
+use Rattle.std.proofs.Common.{◌≡◌, ◌≢◌, ◌⊎◌, ℕ, ◌+◌, ◌<◌, ◌≤◌, List, [], ◌∷◌, ◌++◌, length, length-append, set, arith, ap, sym, refl, ◌∙◌, subst, ⊎_elim, Option}
+use mathlib.Core.Option.{some}
+use lib.ListN.{get_elem?}
+use Rattle.std.specs.Prelude.{◌==◌, if◌then◌else◌}
+use Rattle.std.specs.List.{sum_by, All}
+use Rattle.std.proofs.lemmas.List.Sums.{sum_by-cons, sum_by-append, sum_by_push}
+use Rattle.std.proofs.lemmas.List.Elements.{All-nil, All-cons, All-head, All-tail, All-append}
+use Rattle.atomic_table.specs.Table.{State, Splits, Joins}
+use Rattle.atomic_table.proofs.Lists.{at_set, at_snoc}
+use Rattle.lg_turn.specs.declared.view.Account.{Account}
+use Rattle.lg_turn.specs.declared.view.View.{View}
+use Rattle.lg_turn.specs.declared.view.Stage.TheVariants.{Idle}
+use Rattle.lg_turn.specs.Views.{view_of}
+use Rattle.lg_turn.specs.Rule.{passes_of, with_number, values_of, tickets_of, with_ticket, Slot, Fits, Knows, IsKept}
+use Rattle.lg_turn.specs.Steps.{cut_off, left_over, put_together, spent}
+use Rattle.lg_turn.proofs.Sums.{sum_by_set, each_set}
+
+module _ {V I B : Type 0} (items : V → List I) (number : I → ℕ) (base : V → B) (callers : ℕ) (origin : B) where
+  abbrev Rule : State (Option V) (View I B) → Type 0
+  Rule = IsKept items number base callers origin
+
+  -- the rule holds of other views, where each knows what is true and each sum is as it was
+  pub with_views : (s : State (Option V) (View I B)) (k : Rule s) (views : List (View I B)) → ((i : ℕ) (v : View I B) → get_elem? views i ≡ some v → Knows items number base origin k.list k.serving v)
+      → sum_by passes_of views ≡ sum_by passes_of s.views → ((n : ℕ) → sum_by (with_number n) views ≡ sum_by (with_number n) s.views)
+      → sum_by values_of views ≡ sum_by values_of s.views → sum_by tickets_of views ≡ sum_by tickets_of s.views → ((t : ℕ) → sum_by (with_ticket t) views ≡ sum_by (with_ticket t) s.views)
+      → Rule record { words = s.words; homes = s.homes; views = views }
+  with_views s k views known passes_same numbers_same values_same tickets_same apart_same = record {
+    list = k.list;
+    serving = k.serving;
+    ticket = k.ticket;
+    words = k.words;
+    slot = subst (Slot items number base origin k.list s.homes) (sym values_same) k.slot;
+    each_pass = known;
+    few = k.few;
+    passes = omega (arith, passes_same, k.passes);
+    numbers = λ n. let e = numbers_same n in let once = k.numbers n in (omega (arith, e, once.0), λ h. e ∙ once.1 h);
+    entered = k.entered;
+    drawn = ap (λ (n : ℕ). k.serving + n) tickets_same ∙ k.drawn;
+    apart = λ t. let e = apart_same t in let once = k.apart t in (omega (arith, e, once.0), (λ h. e ∙ once.1 h), λ h. e ∙ once.2 h);
+  }
+
+  pub deals : (id : ℕ) (a : Account I B) (rest : List (Account I B)) → Splits Rule id (view_of (a ∷ rest) Idle) (left_over (view_of (a ∷ rest) Idle)) (cut_off (view_of (a ∷ rest) Idle))
+  deals id a rest s k at =
+      let v = view_of (a ∷ rest) Idle in
+      let l = view_of rest Idle in
+      let r = view_of (a ∷ []) Idle in
+      let P : View I B → Type 0 = Knows items number base origin k.list k.serving in
+      let F : Account I B → Type 0 = Fits items number base origin k.list in
+      let fits = (k.each_pass id v at).fits in
+      let same : (f : View I B → ℕ) → f l + f r ≡ f v → sum_by f (set s.views id l ++ r ∷ []) ≡ sum_by f s.views = λ f e. omega (arith, sum_by_push f (set s.views id l) r, sum_by_set f s.views id v l at, e) in
+      with_views s k (set s.views id l ++ r ∷ [])
+          (λ i u e. ⊎_elim
+              (λ there. each_set (λ j x. P x) s.views id l record { fits = All-tail F a rest fits; stands = tt } (λ j x _ f. k.each_pass j x f) i u there)
+              (λ is. subst P is record { fits = All-cons F a [] (All-head F a rest fits) (All-nil F); stands = tt })
+              (at_snoc (set s.views id l) r u i e))
+          (same passes_of (omega arith))
+          (λ n. let one : Account I B → ℕ = λ b. if b.number == n then 1 else 0 in same (with_number n) (omega (arith, sum_by-cons one a rest, sum_by-cons one a [])))
+          (same values_of refl)
+          (same tickets_of refl)
+          (λ t. same (with_ticket t) refl)
+
+  pub collects : (id other : ℕ) (accounts others : List (Account I B)) → Joins Rule id (view_of accounts Idle) other (view_of others Idle) (put_together (view_of accounts Idle) (view_of others Idle)) spent
+  collects id other accounts others s k at apart there =
+      let v = view_of accounts Idle in
+      let w = view_of others Idle in
+      let b = view_of (others ++ accounts) Idle in
+      let P : View I B → Type 0 = Knows items number base origin k.list k.serving in
+      let F : Account I B → Type 0 = Fits items number base origin k.list in
+      let theirs : get_elem? s.views other ≡ some w = ⊎_elim (λ (t : (other ≡ id) × (b ≡ w)). absurd (apart t.0)) (λ (t : (other ≢ id) × (get_elem? s.views other ≡ some w)). t.1) (at_set s.views id other b w there) in
+      let both = All-append F others accounts (k.each_pass other w theirs).fits (k.each_pass id v at).fits in
+      let same : (f : View I B → ℕ) → f b + f spent ≡ f v + f w → sum_by f (set (set s.views id b) other spent) ≡ sum_by f s.views = λ f e. omega (arith, sum_by_set f (set s.views id b) other w spent there, sum_by_set f s.views id v b at, e) in
+      with_views s k (set (set s.views id b) other spent)
+          (each_set (λ j x. P x) (set s.views id b) other spent record { fits = All-nil F; stands = tt }
+              (λ j x _ f. each_set (λ j x. P x) s.views id b record { fits = both; stands = tt } (λ j x _ f. k.each_pass j x f) j x f))
+          (same passes_of (omega (arith, length-append others accounts)))
+          (λ n. let one : Account I B → ℕ = λ a. if a.number == n then 1 else 0 in same (with_number n) (omega (arith, sum_by-append one others accounts)))
+          (same values_of refl)
+          (same tickets_of refl)
+          (λ t. same (with_ticket t) refl)

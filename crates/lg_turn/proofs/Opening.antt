@@ -1,0 +1,57 @@
+-- The rule holds of a new table: the value is at home, and the first seat answers for all passes.
+use Rattle.std.proofs.Common.{◌≡◌, ◌≢◌, ℕ, zero, suc, ◌+◌, ◌<◌, ◌≤◌, List, [], ◌∷◌, length, map, arith, ap, sym, refl, ◌∙◌, subst, inl, Option, Some}
+use mathlib.Core.Option.{some, some-ne-none, some-injective}
+use mathlib.Core.Logic.{dite}
+use native.Mathlib.Decide.{ℕ_discrete}
+use lib.ListN.{get_elem?}
+use Rattle.std.specs.Prelude.{◌==◌, if◌then◌else◌}
+use Rattle.std.specs.List.{sum_by, All, range_with_len}
+use Rattle.std.proofs.lemmas.List.FromFn.{length-map-range_with_len}
+use Rattle.std.proofs.lemmas.List.Sums.{sum_by-cons}
+use Rattle.std.proofs.lemmas.List.Elements.{All-nil, All-map}
+use Rattle.atomic_table.specs.Table.{State, opening}
+use Rattle.lg_turn.specs.declared.view.Account.{Account}
+use Rattle.lg_turn.specs.declared.view.View.{View}
+use Rattle.lg_turn.specs.Views.{blank}
+use Rattle.lg_turn.specs.Rule.{with_number, Fits, Knows, IsKept}
+use Rattle.lg_turn.specs.Steps.{beginning}
+use Rattle.lg_turn.proofs.Tests.{one_if_same, none_if_other}
+
+module _ (I : Type 0) {B : Type 0} (over : B) where
+  abbrev one : ℕ → Account I B → ℕ
+  one n a = if a.number == n then 1 else 0
+
+  -- each number stands once
+  blank_numbers : (n low count : ℕ) → (sum_by (one n) (map (blank over) (range_with_len low count)) ≤ 1) × (n < low → sum_by (one n) (map (blank over) (range_with_len low count)) ≡ 0) × (low + count ≤ n → sum_by (one n) (map (blank over) (range_with_len low count)) ≡ 0)
+  blank_numbers n low zero = (omega arith, (λ h. refl), λ h. refl)
+  blank_numbers n low (suc count) =
+      let rest = blank_numbers n (low + 1) count in
+      let both = sum_by-cons (one n) (blank over low) (map (blank over) (range_with_len (low + 1) count)) in
+      let most = rest.0 in
+      dite (ℕ_discrete low n)
+          (λ same. let this : one n (blank over low) ≡ 1 = one_if_same low n same in let behind = rest.1 (omega arith) in (omega arith, (λ h. absurd (omega arith)), λ h. absurd (omega arith)))
+          (λ other. let this : one n (blank over low) ≡ 0 = none_if_other low n other in (omega arith, (λ h. let behind = rest.1 (omega arith) in omega arith), λ h. let behind = rest.2 (omega arith) in omega arith))
+
+module _ {V I B : Type 0} (items : V → List I) (number : I → ℕ) (base : V → B) (callers : ℕ) (value : V) where
+  begins_known : (i : ℕ) (v : View I B) → get_elem? (beginning callers (base value) ∷ []) i ≡ some v → Knows items number base (base value) [] 0 v
+  begins_known zero v e = subst (Knows items number base (base value) [] 0) (some-injective (beginning callers (base value)) v e) record {
+    fits = All-map (Fits items number base (base value) []) (blank (base value)) (range_with_len 0 callers) (λ k d inside. record { base_is = refl; begins = ([], refl); own_is = refl });
+    stands = tt;
+  }
+  begins_known (suc i) v e = absurd (some-ne-none v (sym e))
+
+  pub opens : callers ≤ 65 → items value ≡ [] → IsKept items number base callers (base value) (opening (0 ∷ 0 ∷ []) (Some value ∷ []) (beginning callers (base value)))
+  opens few empty = record {
+    list = [];
+    serving = 0;
+    ticket = 0;
+    words = refl;
+    slot = inl (value, refl, empty, refl, refl);
+    each_pass = begins_known;
+    few = few;
+    passes = omega (arith, length-map-range_with_len (blank {I = I} (base value)) 0 callers);
+    numbers = λ n. let once = blank_numbers I (base value) n 0 callers in (omega (arith, once.0), λ h. let none_there = once.2 (omega arith) in omega arith);
+    entered = All-nil (λ e. number e < callers);
+    drawn = refl;
+    apart = λ t. (omega arith, (λ h. refl), λ h. refl);
+  }
