@@ -9,3 +9,4 @@ pub mod Looking
 pub mod Entries
 pub mod Advancing
 pub mod Closing
+pub mod One

@@ -33,6 +33,19 @@ module _ {V I B : Type 0} {G : Ghosts V I B} where
   abbrev pub IsPassOf : Turn V I B → Pass V I B G → Type 0
   IsPassOf turn pass = pass.seat.table_id ≡ turn.table.shared.table_id
 
+  -- the same pass of the same turn
+  abbrev pub IsSamePass : Pass V I B G → Pass V I B G → Type 0
+  IsSamePass old new = (new.seat.table_id ≡ old.seat.table_id) × (number_of new ≡ number_of old) × (base_of new ≡ base_of old)
+
+  -- the pass has seen and made nothing
+  abbrev pub IsNew : B → Pass V I B G → Type 0
+  IsNew base pass = (base_of pass ≡ Some base) × (seen_by pass ≡ []) × (own_of pass ≡ []) × IsAway pass
+
+module _ {I : Type 0} where
+  -- the list is what was seen, with at most one entry behind it, which has this number
+  abbrev pub AddsAtMostOne : (I → ℕ) → ℕ → List I → List I → Type 0
+  AddsAtMostOne number n seen list = (new : List I) × (list ≡ seen ++ new) × (length new ≤ 1) × All (λ e. number e ≡ n) new
+
 module _ {V I B : Type 0} where
   abbrev pub callers_of : Turn V I B → ℕ
   callers_of turn = turn.table.shared.key.callers

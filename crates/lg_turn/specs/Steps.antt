@@ -41,19 +41,32 @@ module _ {V I B : Type 0} where
   abbrev pub HasDrawn : Me (Option V) (View I B) → ℕ → Me (Option V) (View I B) → Type 0
   HasDrawn me found me' = (t : ℕ) × (found ≡ t % 2 ^ 64) × (me' ≡ (view_of me.0.accounts (Waits t), me.1))
 
+  -- the seat has a ticket with these lower bits, and carries nothing
+  abbrev pub HasTicket : ℕ → Me (Option V) (View I B) → Type 0
+  HasTicket found me = (t : ℕ) × (found ≡ t % 2 ^ 64) × (me ≡ (view_of me.0.accounts (Waits t), []))
+
   abbrev pub Draws : Step (Option V) → Me (Option V) (View I B) → ℕ → Me (Option V) (View I B) → Type 0
   Draws st me found me' = HasDrawn me found me'
 
 module _ {V I B : Type 0} (items : V → List I) (number : I → ℕ) (base : V → B) where
-  -- the value came out, and it fits what was known before
-  abbrev pub Takes : ℕ → Me (Option V) (View I B) → Me (Option V) (View I B) → Type 0
-  Takes t me me' =
-      (value : V) × (me' ≡ (view_of (map (after_take (items value)) me.0.accounts) (Holds t), (0, Some value) ∷ []))
-      × All (Fits items number base (base value) (items value)) me.0.accounts
+  -- the value came out under this ticket, and it fits what was known before
+  abbrev pub Takes : ℕ → List (Account I B) → Me (Option V) (View I B) → Type 0
+  Takes t accounts me' =
+      (value : V) × (me' ≡ (view_of (map (after_take (items value)) accounts) (Holds t), (0, Some value) ∷ []))
+      × All (Fits items number base (base value) (items value)) accounts
+
+  abbrev pub HasTaken : List (Account I B) → Me (Option V) (View I B) → Type 0
+  HasTaken accounts me' = (t : ℕ) × Takes t accounts me'
 
   -- where the ticket is served the value comes out, and else nothing changes
   abbrev pub Looks : Step (Option V) → Me (Option V) (View I B) → ℕ → Me (Option V) (View I B) → Type 0
-  Looks st me found me' = (t : ℕ) → me.0.stage ≡ Waits t → (t % 2 ^ 64 ≡ found → Takes t me me') × (t % 2 ^ 64 ≢ found → me' ≡ me)
+  Looks st me found me' = (t : ℕ) → me.0.stage ≡ Waits t → (t % 2 ^ 64 ≡ found → Takes t me.0.accounts me') × (t % 2 ^ 64 ≢ found → me' ≡ me)
+
+  -- one pass has the turn, and may give this value back
+  abbrev pub MayGive : View I B → V → Type 0
+  MayGive v value =
+      (t : ℕ) × (n : ℕ) × (seen : List I) × (own : List I) × (new : List I) × (v ≡ view_of (account_of n (base value) seen own ∷ []) (Holds t))
+      × (items value ≡ seen ++ new) × All (λ e. number e ≡ n) new
 
   -- the value went home
   abbrev pub Advances : Step (Option V) → Me (Option V) (View I B) → ℕ → Me (Option V) (View I B) → Type 0

@@ -1,11 +1,19 @@
 //! How a turn is made, with its passes.
-ghost use Rattle.std.specs.Prelude.{◌≡◌, ℕ, ◌<◌, ◌≤◌, List, [], map, All, Some, IfOk, IfErr};
+ghost use Rattle.std.specs.Prelude.{◌≡◌, ℕ, ◌-◌, ◌<◌, ◌≤◌, List, [], ◌∷◌, length, map, All, Some, IfOk, IfErr, vec_capacity};
 ghost use Rattle.std.specs.List.{range_with_len};
-ghost use Rattle.lg_turn.specs.Passes.{number_of, base_of, seen_by, own_of, IsAway, IsPassOf, callers_of, origin_of};
+ghost use Rattle.lg_turn.specs.declared.view.Stage.TheVariants.{Idle};
+ghost use Rattle.lg_turn.specs.Views.{blank, view_of};
+ghost use Rattle.lg_turn.specs.Steps.{beginning};
+ghost use Rattle.lg_turn.specs.Passes.{number_of, IsNew, IsPassOf, callers_of, origin_of};
 
-use super::Turn;
+use super::{Seating, Shelf, Turn, Words};
 use crate::keeps::Keeps;
 use crate::pass::Pass;
+use crate::rule::{Deal, Terms};
+use atomic_table::{Refused, Table};
+use lg_base::NoMemory;
+use std::alloc::Global;
+use std::snapshot::Snapshot;
 
 impl<V: Keeps> Pass<V> {
     /// The number of the pass, from 0 to the number of callers less 1.
@@ -14,4 +22,48 @@ impl<V: Keeps> Pass<V> {
     {
         self.number
     }
+}
+
+// The one value that a table of no memory gives back.
+fn only<V>(mut slots: Vec<Option<V>>) -> V
+    requires { (value : V) × (slots.items ≡ Some value ∷ []) }
+    ensures { slots.items ≡ Some result ∷ [] }
+{
+    let Some(last) = slots.pop() else {
+        unreachable!()
+    };
+    let Some(value) = last else { unreachable!() };
+    slots.destroy_empty();
+    value
+}
+
+// A table with the value in its slot, and the seat that answers for all passes.
+fn open<V: Keeps>(
+    alloc: Global,
+    value: V,
+    terms: &Terms<V>,
+) -> Result<(Shelf<V>, Seating<V>), V>
+    requires first { terms.now.first.value ≡ value }
+    requires few { terms.now.callers ≤ 65 }
+    requires empty { V.items value ≡ [] }
+    ensures sized { IfOk result (λ t. (t.0.shared.table_id.words ≡ 2) × (t.0.shared.table_id.slots ≡ 1) × (t.0.shared.key ≡ terms.now)) }
+    ensures seat { IfOk result (λ t. (t.1.table_id ≡ t.0.shared.table_id) × (t.1.me ≡ (beginning terms.now.callers (V.base value), []))) }
+    ensures err { IfErr result (λ back. back ≡ value) }
+{
+    let Ok(mut slots) = Vec::with_capacity(alloc, 1) else {
+        return Err(value);
+    };
+    slots.push_reserved(Some(value));
+    match Table::new(alloc, &[0, 0], slots, terms) {
+        Ok(made) => Ok(made),
+        Err(Refused { slots }) => Err(only(slots)),
+    }
+}
+
+// The pass for which a seat answers.
+fn pass_at<V: Keeps>(number: u32, seat: Seating<V>) -> Pass<V>
+    requires { (base : V.Base) × (seat.me ≡ (view_of (blank base number ∷ []) Idle, [])) }
+    ensures same { (result.seat ≡ seat) × (result.number ≡ number) }
+{
+    Pass { number, seat }
 }
