@@ -10,3 +10,4 @@ pub mod Entries
 pub mod Advancing
 pub mod Closing
 pub mod One
+pub mod Handing

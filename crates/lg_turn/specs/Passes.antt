@@ -3,10 +3,15 @@ use Rattle.std.specs.Prelude.{◌≡◌, ℕ, ◌≤◌, List, [], ◌++◌, len
 use Rattle.lg_turn.specs.declared.keeps.Keeps.{Ghosts}
 use Rattle.lg_turn.specs.declared.pass.Pass.{Pass}
 use Rattle.lg_turn.specs.declared.turn.Turn.{Turn}
+use Rattle.lg_turn.specs.declared.view.Account.{Account}
 use Rattle.lg_turn.specs.declared.view.Stage.TheVariants.{Idle, Holds}
 use Rattle.lg_turn.specs.Views.{BeginsWith, of_pass, number_in, base_in, seen_in, own_in}
 
 module _ {V I B : Type 0} {G : Ghosts V I B} where
+  -- what the pass knows, as a list of one
+  abbrev pub accounts_of : Pass V I B G → List (Account I B)
+  accounts_of pass = pass.seat.me.0.accounts
+
   abbrev pub number_of : Pass V I B G → ℕ
   number_of pass = pass.number
 

@@ -8,6 +8,7 @@ use atomic_table::{Join, Play, Split, TableRule};
 use std::snapshot::Snapshot;
 
 /// What the table is told once: how many passes there are, and the value that the list begins with.
+#[derive(Drop)]
 pub struct Terms<V> {
     pub callers: u32,
     pub first: Snapshot<V>,

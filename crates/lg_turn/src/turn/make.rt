@@ -67,3 +67,57 @@ fn pass_at<V: Keeps>(number: u32, seat: Seating<V>) -> Pass<V>
 {
     Pass { number, seat }
 }
+
+// Hands out the passes, one after another, each with a seat cut off the first one.
+fn deal<V: Keeps>(
+    words: &Words<V>,
+    mut seat: Seating<V>,
+    mut passes: Vec<Pass<V>>,
+    callers: u32,
+) -> Vec<Pass<V>>
+    requires turn { (seat.table_id ≡ words.now.table_id) × (words.now.table_id.words ≡ 2) }
+    requires first { (callers ≡ words.now.key.callers) × (seat.me ≡ (beginning callers (V.base words.now.key.first.value), [])) }
+    requires room { (0 < callers) × (passes.items ≡ []) × (callers ≤ vec_capacity passes) }
+    ensures numbers { map number_of result.items ≡ range_with_len 0 callers }
+    ensures new { All (λ p. (p.seat.table_id ≡ words.entry.now.table_id) × IsNew (V.base words.entry.now.key.first.value) p) result.items }
+{
+    for number in 0..callers - 1 {
+        let other = words.split_seat::<Deal>(&mut seat);
+        passes.push_reserved(pass_at(number, other));
+    }
+    passes.push_reserved(pass_at(callers - 1, seat));
+    passes
+}
+
+impl<V: Keeps> Turn<V> {
+    /// Makes a turn round a value whose list is empty, with as many passes as there are callers: from 1 to 65, with
+    /// the numbers from 0 on. Each has the base of the value, and has seen and made nothing. Where memory runs out the
+    /// value comes back.
+    pub fn make_all(
+        alloc: Global,
+        value: V,
+        callers: u32,
+    ) -> Result<(Turn<V>, Vec<Pass<V>>), (V, NoMemory)>
+        requires callers { (1 ≤ callers) × (callers ≤ 65) }
+        requires empty { V.items value ≡ [] }
+        ensures turn { IfOk result (λ made. (callers_of made.0 ≡ callers) × (origin_of V.base made.0 ≡ V.base value)) }
+        ensures numbers { IfOk result (λ made. map number_of made.1.items ≡ range_with_len 0 callers) }
+        ensures new { IfOk result (λ made. All (λ p. IsPassOf made.0 p × IsNew (V.base value) p) made.1.items) }
+        ensures err { IfErr result (λ back. back.0 ≡ value) }
+    {
+        let Ok(passes) = Vec::with_capacity(alloc, callers as usize) else {
+            return Err((value, NoMemory));
+        };
+        let terms = Terms {
+            callers,
+            first: Snapshot::of(&value),
+        };
+        match open(alloc, value, &terms) {
+            Ok((table, seat)) => {
+                let passes = deal(&table.shared, seat, passes, callers);
+                Ok((Turn { table }, passes))
+            }
+            Err(value) => Err((value, NoMemory)),
+        }
+    }
+}
