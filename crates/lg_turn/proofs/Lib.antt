@@ -11,3 +11,4 @@ pub mod Advancing
 pub mod Closing
 pub mod One
 pub mod Handing
+pub mod Gathering
