@@ -1,24 +1,23 @@
 -- An advance keeps the rule: the value comes home with the entries of the pass that had it, and the next ticket is served.
-use Rattle.std.proofs.Common.{◌≡◌, ◌≢◌, ◌⊎◌, ℕ, zero, suc, ◌+◌, ◌%◌, ◌^◌, ◌<◌, ◌≤◌, List, [], ◌∷◌, ◌++◌, length, set, get_or, map, arith, ap, sym, refl, ◌∙◌, subst, inl, inr, ⊎_elim, Option, Some}
-use mathlib.Core.Option.{Option as Maybe, some, none, some-injective}
+use Rattle.std.proofs.Common.{◌≡◌, ◌≢◌, ℕ, ◌+◌, ◌%◌, ◌^◌, ◌<◌, ◌≤◌, List, [], ◌∷◌, ◌++◌, set, get_or, arith, ap, sym, refl, ◌∙◌, inl, ⊎_elim, Option, Some}
+use mathlib.Core.Option.{Option as Maybe, some, none}
 use mathlib.Core.Logic.{dite}
-use native.Mathlib.Decide.{ℕ_discrete, dec_lt, dec_le}
+use native.Mathlib.Decide.{ℕ_discrete, dec_lt}
 use lib.ListN.{get_elem?}
-use Rattle.std.specs.Prelude.{◌==◌, if◌then◌else◌}
 use Rattle.std.specs.List.{sum_by, All}
 use Rattle.std.proofs.Math.Nat.{mod-add-mod}
 use Rattle.std.proofs.lemmas.List.Elements.{All-nil, All-cons, All-head, All-append, All-weaker}
-use Rattle.atomic_table.specs.Table.{State, Me, Act, step, gives, stepped, carried_after, Valid, Allows}
+use Rattle.atomic_table.specs.Table.{State, step, gives, stepped, Allows}
 use Rattle.lg_turn.specs.declared.view.Account.{Account}
 use Rattle.lg_turn.specs.declared.view.View.{View}
 use Rattle.lg_turn.specs.declared.view.Stage.{Stage}
 use Rattle.lg_turn.specs.declared.view.Stage.TheVariants.{Idle, Waits, Holds}
-use Rattle.lg_turn.specs.Views.{view_of, account_of, seen_in}
-use Rattle.lg_turn.specs.Rule.{passes_of, with_number, values_of, tickets_of, with_ticket, ticket_count, same_ticket, value_count, Stands, Slot, Fits, Knows, IsKept}
+use Rattle.lg_turn.specs.Views.{view_of, account_of}
+use Rattle.lg_turn.specs.Rule.{with_number, values_of, tickets_of, with_ticket, value_count, Stands, Slot, Fits, Knows, IsKept}
 use Rattle.lg_turn.specs.Steps.{Advances, after_give}
 use Rattle.lg_turn.proofs.Sums.{sum_by_set, each_set, part-le-sum_by, two_parts-le-sum_by}
 use Rattle.lg_turn.proofs.Tests.{one_if_same, none_if_other}
-use Rattle.lg_turn.proofs.Parts.{sum_stays, passes_stay, numbers_stay}
+use Rattle.lg_turn.proofs.Parts.{passes_stay, numbers_stay}
 use Rattle.lg_turn.proofs.Entries.{numbers_other, others_fit, giver_fits}
 
 -- after an advance the words show the next ticket that is served

@@ -1,5 +1,5 @@
 -- Where one seat answers for all passes, and is away, the value is at home.
-use Rattle.std.proofs.Common.{◌≡◌, ◌≢◌, ◌⊎◌, ℕ, ◌+◌, ◌<◌, ◌≤◌, List, [], ◌∷◌, length, arith, ap, sym, refl, ◌∙◌, subst, ⊎_elim, Option, Some}
+use Rattle.std.proofs.Common.{◌≡◌, ℕ, ◌<◌, List, length, arith, ap, sym, ◌∙◌, subst, ⊎_elim, Option, Some}
 use mathlib.Core.Option.{Option as Maybe, some, some-injective}
 use mathlib.Core.Logic.{dite}
 use native.Mathlib.Decide.{ℕ_discrete, dec_le}
@@ -11,7 +11,7 @@ use Rattle.lg_turn.specs.declared.view.View.{View}
 use Rattle.lg_turn.specs.declared.view.Stage.{Stage}
 use Rattle.lg_turn.specs.declared.view.Stage.TheVariants.{Idle, Waits, Holds}
 use Rattle.lg_turn.specs.Views.{view_of}
-use Rattle.lg_turn.specs.Rule.{passes_of, values_of, value_count, Stands, Fits, Knows, IsKept}
+use Rattle.lg_turn.specs.Rule.{passes_of, values_of, value_count, Stands, Fits, IsKept}
 use Rattle.lg_turn.proofs.Sums.{two_parts-le-sum_by, some_part}
 
 module _ {V I B : Type 0} (items : V → List I) (number : I → ℕ) (base : V → B) where

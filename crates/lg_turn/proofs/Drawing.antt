@@ -1,5 +1,5 @@
 -- A draw keeps the rule: the next ticket is out, and nobody has it yet.
-use Rattle.std.proofs.Common.{◌≡◌, ◌≢◌, ℕ, ◌+◌, ◌%◌, ◌^◌, ◌<◌, ◌≤◌, List, [], ◌∷◌, length, set, get_or, arith, ap, sym, refl, ◌∙◌, Option, cond}
+use Rattle.std.proofs.Common.{◌≡◌, ℕ, ◌+◌, ◌%◌, ◌^◌, ◌<◌, ◌≤◌, List, [], ◌∷◌, length, set, get_or, arith, ap, refl, ◌∙◌, Option, cond}
 use mathlib.Core.Option.{some, none}
 use mathlib.Core.Logic.{dite}
 use native.Mathlib.Decide.{ℕ_discrete}
@@ -7,13 +7,12 @@ use lib.ListN.{get_elem?}
 use Rattle.std.specs.List.{sum_by}
 use Rattle.std.specs.Prelude.{◌==◌}
 use Rattle.std.proofs.Math.Nat.{mod-add-mod}
-use Rattle.atomic_table.specs.Table.{State, Me, step, keeps, Allows}
+use Rattle.atomic_table.specs.Table.{step, keeps, Allows}
 use Rattle.lg_turn.specs.declared.view.Account.{Account}
 use Rattle.lg_turn.specs.declared.view.View.{View}
-use Rattle.lg_turn.specs.declared.view.Stage.{Stage}
-use Rattle.lg_turn.specs.declared.view.Stage.TheVariants.{Idle, Waits, Holds}
+use Rattle.lg_turn.specs.declared.view.Stage.TheVariants.{Idle, Waits}
 use Rattle.lg_turn.specs.Views.{view_of}
-use Rattle.lg_turn.specs.Rule.{passes_of, with_number, values_of, tickets_of, with_ticket, Knows, IsKept}
+use Rattle.lg_turn.specs.Rule.{values_of, tickets_of, with_ticket, Knows, IsKept}
 use Rattle.lg_turn.specs.Steps.{Draws}
 use Rattle.lg_turn.proofs.Sums.{sum_by_set, each_set}
 use Rattle.lg_turn.proofs.Tests.{one_if_same, none_if_other}

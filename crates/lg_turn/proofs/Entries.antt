@@ -1,13 +1,11 @@
 -- Entries of one pass, behind a list that others know too.
-use Rattle.std.proofs.Common.{◌≡◌, ◌≢◌, ℕ, zero, suc, ◌+◌, ◌<◌, ◌≤◌, List, [], ◌∷◌, ◌++◌, map, length, drop, get_or, arith, ap, sym, refl, ◌∙◌, subst, append_assoc, eq-eqb, ne_eqb, Bool, cond}
-use mathlib.Core.Logic.{dite}
-use native.Mathlib.Decide.{ℕ_discrete}
+use Rattle.std.proofs.Common.{◌≡◌, ◌≢◌, ℕ, List, [], ◌∷◌, ◌++◌, get_or, arith, ap, sym, refl, ◌∙◌, append_assoc, eq-eqb, ne_eqb, Bool, cond}
 use Rattle.std.specs.Prelude.{◌==◌, if◌then◌else◌}
-use Rattle.std.specs.List.{sum_by, All, filter}
+use Rattle.std.specs.List.{sum_by, All}
 use Rattle.std.proofs.Math.Seq.{drop-append_seam}
 use Rattle.std.proofs.lemmas.List.{append-nil}
 use Rattle.std.proofs.lemmas.List.Sums.{sum_by-cons}
-use Rattle.std.proofs.lemmas.List.Elements.{All-nil, All-cons, All-head, All-tail, All-append, All-weaker, filter-append}
+use Rattle.std.proofs.lemmas.List.Elements.{All-nil, All-cons, All-head, All-tail, filter-append}
 use Rattle.lg_turn.specs.declared.view.Account.{Account}
 use Rattle.lg_turn.specs.Views.{of_pass, account_of}
 use Rattle.lg_turn.specs.Rule.{Fits}

@@ -1,13 +1,13 @@
 -- Passes that come together at the end.
-use Rattle.std.proofs.Common.{◌≡◌, ℕ, zero, suc, ◌+◌, ◌<◌, List, [], ◌∷◌, ◌++◌, length, length-append, arith, ap, sym, refl, ◌∙◌, subst, append_assoc, Option, Some}
+use Rattle.std.proofs.Common.{◌≡◌, ℕ, ◌<◌, List, [], ◌∷◌, ◌++◌, length, length-append, arith, ap, sym, refl, ◌∙◌, subst, Option, Some}
 use mathlib.Core.Option.{some, some-injective}
 use lib.ListN.{get_elem?}
 use Rattle.std.specs.List.{All, flat_map}
 use Rattle.std.proofs.lemmas.List.{append-nil}
 use Rattle.std.proofs.lemmas.List.Concat.{flat_map-cons}
 use Rattle.std.proofs.lemmas.Grind.{flat_map-append}
-use Rattle.std.proofs.lemmas.List.Elements.{All-nil, All-cons, All-head, All-tail, All-pop, All-weaker}
-use Rattle.atomic_table.specs.Table.{State, Me, Final, Seen, Joins}
+use Rattle.std.proofs.lemmas.List.Elements.{All-nil, All-cons, All-head, All-tail, All-weaker}
+use Rattle.atomic_table.specs.Table.{Me, Final, Seen, Joins}
 use Rattle.lg_turn.specs.declared.keeps.Keeps.{Ghosts}
 use Rattle.lg_turn.specs.declared.pass.Pass.{Pass}
 use Rattle.lg_turn.specs.declared.view.Account.{Account}

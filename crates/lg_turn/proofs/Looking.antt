@@ -1,5 +1,5 @@
 -- A look keeps the rule: where the pass's ticket is served the value is at home, and comes out to the pass.
-use Rattle.std.proofs.Common.{◌≡◌, ◌≢◌, ◌⊎◌, ℕ, zero, suc, ◌+◌, ◌%◌, ◌^◌, ◌<◌, ◌≤◌, List, [], ◌∷◌, length, set, get_or, map, arith, ap, sym, refl, ◌∙◌, subst, inl, inr, ⊎_elim, Option, Some}
+use Rattle.std.proofs.Common.{◌≡◌, ◌≢◌, ℕ, ◌+◌, ◌%◌, ◌^◌, ◌<◌, ◌≤◌, List, [], ◌∷◌, length, set, get_or, map, arith, ap, sym, refl, ◌∙◌, subst, inr, ⊎_elim, Option, Some}
 use mathlib.Core.Option.{Option as Maybe, some, none, some-injective}
 use mathlib.Core.Logic.{dite}
 use native.Mathlib.Decide.{ℕ_discrete, dec_lt, dec_le}
@@ -7,17 +7,17 @@ use lib.ListN.{get_elem?}
 use lib.Seq.{set-get_or}
 use Rattle.std.specs.List.{sum_by, All}
 use Rattle.std.proofs.lemmas.List.{length-map}
-use Rattle.atomic_table.specs.Table.{State, Me, Act, step, keeps, takes, stepped, carried_after, Valid, Allows}
+use Rattle.atomic_table.specs.Table.{State, Act, step, keeps, takes, stepped, carried_after, Valid, Allows}
 use Rattle.atomic_table.proofs.Lists.{one_turn, set_again}
 use Rattle.lg_turn.specs.declared.view.Account.{Account}
 use Rattle.lg_turn.specs.declared.view.View.{View}
 use Rattle.lg_turn.specs.declared.view.Stage.{Stage}
 use Rattle.lg_turn.specs.declared.view.Stage.TheVariants.{Idle, Waits, Holds}
 use Rattle.lg_turn.specs.Views.{view_of}
-use Rattle.lg_turn.specs.Rule.{passes_of, with_number, values_of, tickets_of, with_ticket, ticket_count, same_ticket, value_count, Stands, Fits, Knows, IsKept}
-use Rattle.lg_turn.specs.Steps.{Looks, Takes, after_take}
+use Rattle.lg_turn.specs.Rule.{passes_of, values_of, tickets_of, with_ticket, ticket_count, same_ticket, value_count, Stands, Fits, Knows, IsKept}
+use Rattle.lg_turn.specs.Steps.{Looks, after_take}
 use Rattle.lg_turn.proofs.Sums.{sum_by_set, each_set, part-le-sum_by, two_parts-le-sum_by, some_part, sum_by-le-sum_by}
-use Rattle.lg_turn.proofs.Tests.{one_if_same, none_if_other}
+use Rattle.lg_turn.proofs.Tests.{one_if_same}
 use Rattle.lg_turn.proofs.Parts.{sum_stays, passes_stay, numbers_stay}
 use Rattle.lg_turn.proofs.Accounts.{numbers_map, seen_in-after_take, fits_after_take}
 

@@ -1,12 +1,11 @@
 -- A seat that answers for one pass.
-use Rattle.std.proofs.Common.{◌≡◌, ℕ, ◌+◌, List, [], ◌∷◌, ◌++◌, length, map, drop, arith, ap, sym, refl, ◌∙◌, subst, Option, Some, None, Bool, true, false}
+use Rattle.std.proofs.Common.{◌≡◌, ℕ, List, [], ◌∷◌, length, arith, refl, Option, Some, None}
 use Rattle.std.specs.Prelude.{IsTrue}
 use Rattle.std.proofs.lemmas.Bool.Decides.{nat_tests}
 use Rattle.lg_turn.specs.declared.view.Account.{Account}
 use Rattle.lg_turn.specs.declared.view.Stage.{Stage}
 use Rattle.lg_turn.specs.declared.view.Stage.TheVariants.{Idle, Waits, Holds}
-use Rattle.lg_turn.specs.Views.{account_of, number_in, base_in, seen_in, own_in, has_no_slot, has_empty_slot, is_settled_at}
-use Rattle.lg_turn.specs.Steps.{after_take, after_give}
+use Rattle.lg_turn.specs.Views.{account_of, number_in, base_in, seen_in, own_in, has_empty_slot, is_settled_at}
 
 module _ {I B : Type 0} where
   pub one_account : (accounts : List (Account I B)) → length accounts ≡ 1

@@ -1,19 +1,19 @@
 -- The rule holds of a new table: the value is at home, and the first seat answers for all passes.
-use Rattle.std.proofs.Common.{◌≡◌, ◌≢◌, ℕ, zero, suc, ◌+◌, ◌<◌, ◌≤◌, List, [], ◌∷◌, length, map, arith, ap, sym, refl, ◌∙◌, subst, inl, Option, Some}
+use Rattle.std.proofs.Common.{◌≡◌, ℕ, zero, suc, ◌+◌, ◌<◌, ◌≤◌, List, [], ◌∷◌, map, arith, sym, refl, subst, inl, Some}
 use mathlib.Core.Option.{some, some-ne-none, some-injective}
 use mathlib.Core.Logic.{dite}
 use native.Mathlib.Decide.{ℕ_discrete}
 use lib.ListN.{get_elem?}
 use Rattle.std.specs.Prelude.{◌==◌, if◌then◌else◌}
-use Rattle.std.specs.List.{sum_by, All, range_with_len}
+use Rattle.std.specs.List.{sum_by, range_with_len}
 use Rattle.std.proofs.lemmas.List.FromFn.{length-map-range_with_len}
 use Rattle.std.proofs.lemmas.List.Sums.{sum_by-cons}
 use Rattle.std.proofs.lemmas.List.Elements.{All-nil, All-map}
-use Rattle.atomic_table.specs.Table.{State, opening}
+use Rattle.atomic_table.specs.Table.{opening}
 use Rattle.lg_turn.specs.declared.view.Account.{Account}
 use Rattle.lg_turn.specs.declared.view.View.{View}
 use Rattle.lg_turn.specs.Views.{blank}
-use Rattle.lg_turn.specs.Rule.{with_number, Fits, Knows, IsKept}
+use Rattle.lg_turn.specs.Rule.{Fits, Knows, IsKept}
 use Rattle.lg_turn.specs.Steps.{beginning}
 use Rattle.lg_turn.proofs.Tests.{one_if_same, none_if_other}
 

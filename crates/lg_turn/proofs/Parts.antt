@@ -1,10 +1,10 @@
 -- The parts of the rule that a step keeps which changes one view, where the view answers for the same passes.
-use Rattle.std.proofs.Common.{◌≡◌, ◌≢◌, ℕ, ◌+◌, ◌<◌, ◌≤◌, List, set, arith, ap, refl, ◌∙◌}
+use Rattle.std.proofs.Common.{◌≡◌, ℕ, ◌≤◌, List, set, arith, ◌∙◌}
 use mathlib.Core.Option.{some}
 use lib.ListN.{get_elem?}
 use Rattle.std.specs.List.{sum_by}
 use Rattle.lg_turn.specs.declared.view.View.{View}
-use Rattle.lg_turn.specs.Rule.{passes_of, with_number, values_of, tickets_of, with_ticket}
+use Rattle.lg_turn.specs.Rule.{passes_of, with_number}
 use Rattle.lg_turn.proofs.Sums.{sum_by_set}
 
 module _ {I B : Type 0} (views : List (View I B)) (id : ℕ) (v w : View I B) (at : get_elem? views id ≡ some v) where

@@ -1,5 +1,5 @@
 -- Tests on numbers, as the counts of the rule make them.
-use Rattle.std.proofs.Common.{◌≡◌, ◌≢◌, ℕ, eqb, eq-eqb, ne_eqb, ap, cond, Bool}
+use Rattle.std.proofs.Common.{◌≡◌, ◌≢◌, ℕ, eq-eqb, ne_eqb, ap, cond, Bool}
 use Rattle.std.specs.Prelude.{◌==◌}
 
 pub one_if_same : (t u : ℕ) → t ≡ u → ◌≡◌ {A = ℕ} (cond (t == u) 1 0) 1

@@ -5,7 +5,7 @@ use Rattle.lg_turn.specs.declared.pass.Pass.{Pass}
 use Rattle.lg_turn.specs.declared.turn.Turn.{Turn}
 use Rattle.lg_turn.specs.declared.view.Account.{Account}
 use Rattle.lg_turn.specs.declared.view.Stage.TheVariants.{Idle, Holds}
-use Rattle.lg_turn.specs.Views.{BeginsWith, of_pass, number_in, base_in, seen_in, own_in}
+use Rattle.lg_turn.specs.Views.{base_in, seen_in, own_in}
 
 module _ {V I B : Type 0} {G : Ghosts V I B} where
   -- what the pass knows, as a list of one

@@ -1,10 +1,9 @@
 -- What each step on the table tells the pass that makes it, and how views are cut and put together. This project's own.
-use Rattle.std.specs.Prelude.{◌≡◌, ◌≢◌, ℕ, ◌+◌, ◌%◌, ◌^◌, List, [], ◌∷◌, ◌++◌, Option, Some, drop, length, map, All}
+use Rattle.std.specs.Prelude.{◌≡◌, ◌≢◌, ℕ, ◌%◌, ◌^◌, List, [], ◌∷◌, ◌++◌, Option, Some, drop, length, map, All}
 use Rattle.std.specs.List.{range_with_len}
 use Rattle.atomic_table.specs.Table.{Me, Step}
 use Rattle.lg_turn.specs.declared.view.Account.{Account}
 use Rattle.lg_turn.specs.declared.view.View.{View}
-use Rattle.lg_turn.specs.declared.view.Stage.{Stage}
 use Rattle.lg_turn.specs.declared.view.Stage.TheVariants.{Idle, Waits, Holds}
 use Rattle.lg_turn.specs.Views.{account_of, blank, first_of, others_of, view_of}
 use Rattle.lg_turn.specs.Rule.{Fits}

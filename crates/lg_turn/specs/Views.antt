@@ -1,5 +1,5 @@
 -- What a pass knows of the one list, and where it stands. This project's own.
-use Rattle.std.specs.Prelude.{◌≡◌, ℕ, ◌==◌, cond, List, [], ◌∷◌, ◌++◌, length, drop, filter, Option, Some, None, Bool, true, false, ◌&&◌, is_none}
+use Rattle.std.specs.Prelude.{◌≡◌, ℕ, ◌==◌, List, [], ◌∷◌, ◌++◌, filter, Option, Some, None, Bool, true, false, ◌&&◌, is_none}
 use Rattle.atomic_table.specs.Table.{Me}
 use Rattle.lg_turn.specs.declared.view.Account.{Account}
 use Rattle.lg_turn.specs.declared.view.View.{View}

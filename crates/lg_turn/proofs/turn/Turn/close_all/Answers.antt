@@ -1,4 +1,4 @@
-use Rattle.lg_turn.proofs.Gathering.{Closes, closed, closed_as}
+use Rattle.lg_turn.proofs.Gathering.{closed, closed_as}
 use Rattle.lg_turn.proofs.turn.Turn.close_all.Goals as goal
 
 pub unreachable-requires : goal.unreachable-requires

@@ -1,6 +1,5 @@
-use Rattle.std.proofs.Common.{◌≡◌, Option, Some, List, [], ◌∷◌, ℕ, ap, sym, ◌∙◌, subst}
+use Rattle.std.proofs.Common.{◌≡◌, Some, [], ◌∷◌, ℕ, ap, sym, ◌∙◌, subst}
 use Rattle.std.specs.List.{All}
-use Rattle.lg_turn.specs.declared.view.Account.{Account}
 use Rattle.lg_turn.specs.Views.{account_of, number_in, seen_in, own_in}
 use Rattle.lg_turn.proofs.One.{one_account}
 use Rattle.lg_turn.proofs.turn.Turn.give.Goals as goal

@@ -1,4 +1,4 @@
-use Rattle.std.proofs.Common.{◌≡◌, Option, Some, List, [], ◌∷◌, ℕ, ◌+◌, ◌%◌, ◌^◌, map, ap, sym, ◌∙◌, subst, refl, arith}
+use Rattle.std.proofs.Common.{Option, Some, [], ◌∷◌, ◌+◌, ◌%◌, ◌^◌, map, ap, sym, ◌∙◌, subst, refl, arith}
 use mathlib.Core.Option.{none}
 use Rattle.atomic_table.specs.Table.{Me, step, Allows}
 use Rattle.lg_turn.specs.declared.view.View.{View}

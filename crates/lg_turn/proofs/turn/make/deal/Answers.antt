@@ -1,4 +1,4 @@
-use Rattle.std.proofs.Common.{◌≡◌, ℕ, ◌+◌, ◌-◌, ◌<◌, Option, List, [], ◌∷◌, ◌++◌, map, ap, sym, ◌∙◌, subst, arith}
+use Rattle.std.proofs.Common.{◌≡◌, ℕ, ◌+◌, ◌-◌, ◌<◌, Option, List, [], map, ap, sym, ◌∙◌, subst, arith}
 use Rattle.std.specs.List.{All, range_with_len}
 use Rattle.std.proofs.lemmas.List.Elements.{All-push}
 use Rattle.atomic_table.specs.Table.{Me, Splits}
@@ -10,7 +10,7 @@ use Rattle.lg_turn.specs.declared.view.Stage.TheVariants.{Idle}
 use Rattle.lg_turn.specs.Views.{blank, view_of}
 use Rattle.lg_turn.specs.Rule.{IsKept}
 use Rattle.lg_turn.specs.Steps.{left_over, cut_off}
-use Rattle.lg_turn.specs.Passes.{number_of, IsNew}
+use Rattle.lg_turn.specs.Passes.{IsNew}
 use Rattle.lg_turn.proofs.Dealing.{deals}
 use Rattle.lg_turn.proofs.Handing.{next_blank, last_blank, new_pass, pushed_number}
 use Rattle.lg_turn.proofs.turn.make.deal.Goals as goal

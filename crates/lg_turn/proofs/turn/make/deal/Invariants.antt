@@ -1,4 +1,4 @@
-use Rattle.std.proofs.Common.{◌≡◌, ◌-◌, ◌<◌, [], map, vec_len}
+use Rattle.std.proofs.Common.{◌≡◌, ◌-◌, [], map, vec_len}
 use Rattle.std.specs.Prelude.{vec_capacity}
 use Rattle.std.specs.List.{All, range_with_len}
 use Rattle.lg_turn.specs.declared.view.Stage.TheVariants.{Idle}

@@ -1,4 +1,4 @@
-use Rattle.std.proofs.Common.{rules, List, ◌∷◌, ◌+◌, ◌%◌, ◌^◌, sym, subst, arith}
+use Rattle.std.proofs.Common.{◌+◌, ◌%◌, ◌^◌, sym, subst, arith}
 use mathlib.Core.Option.{none}
 use Rattle.atomic_table.specs.Table.{step, Allows}
 use Rattle.lg_turn.specs.declared.view.Stage.{Stage}
