@@ -16,7 +16,7 @@ use Rattle.lg_turn.specs.Views.{view_of, account_of}
 use Rattle.lg_turn.specs.Rule.{with_number, values_of, tickets_of, with_ticket, value_count, Stands, Slot, Fits, Knows, IsKept}
 use Rattle.lg_turn.specs.Steps.{Advances, after_give}
 use Rattle.lg_turn.proofs.Sums.{sum_by_set, each_set, part-le-sum_by, two_parts-le-sum_by}
-use Rattle.lg_turn.proofs.Tests.{one_if_same, none_if_other}
+use Rattle.lg_turn.proofs.Counts.{one_if_same, none_if_other}
 use Rattle.lg_turn.proofs.Parts.{passes_stay, numbers_stay}
 use Rattle.lg_turn.proofs.Entries.{numbers_other, others_fit, giver_fits}
 

@@ -15,7 +15,7 @@ use Rattle.lg_turn.specs.Views.{view_of}
 use Rattle.lg_turn.specs.Rule.{values_of, tickets_of, with_ticket, Knows, IsKept}
 use Rattle.lg_turn.specs.Steps.{Draws}
 use Rattle.lg_turn.proofs.Sums.{sum_by_set, each_set}
-use Rattle.lg_turn.proofs.Tests.{one_if_same, none_if_other}
+use Rattle.lg_turn.proofs.Counts.{one_if_same, none_if_other}
 use Rattle.lg_turn.proofs.Parts.{sum_stays, passes_stay, numbers_stay}
 
 module _ {V I B : Type 0} (items : V → List I) (number : I → ℕ) (base : V → B) (callers : ℕ) (origin : B) where

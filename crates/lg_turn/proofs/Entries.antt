@@ -10,7 +10,7 @@ use Rattle.lg_turn.specs.declared.view.Account.{Account}
 use Rattle.lg_turn.specs.Views.{of_pass, account_of}
 use Rattle.lg_turn.specs.Rule.{Fits}
 use Rattle.lg_turn.specs.Steps.{after_give}
-use Rattle.lg_turn.proofs.Tests.{one_if_same}
+use Rattle.lg_turn.proofs.Counts.{one_if_same}
 
 module _ {I : Type 0} (number : I → ℕ) where
   -- entries of one number are all its own

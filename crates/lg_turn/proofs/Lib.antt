@@ -1,5 +1,5 @@
 pub mod Sums
-pub mod Tests
+pub mod Counts
 pub mod Parts
 pub mod Accounts
 pub mod Opening

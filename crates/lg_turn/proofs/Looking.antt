@@ -17,7 +17,7 @@ use Rattle.lg_turn.specs.Views.{view_of}
 use Rattle.lg_turn.specs.Rule.{passes_of, values_of, tickets_of, with_ticket, ticket_count, same_ticket, value_count, Stands, Fits, Knows, IsKept}
 use Rattle.lg_turn.specs.Steps.{Looks, after_take}
 use Rattle.lg_turn.proofs.Sums.{sum_by_set, each_set, part-le-sum_by, two_parts-le-sum_by, some_part, sum_by-le-sum_by}
-use Rattle.lg_turn.proofs.Tests.{one_if_same}
+use Rattle.lg_turn.proofs.Counts.{one_if_same}
 use Rattle.lg_turn.proofs.Parts.{sum_stays, passes_stay, numbers_stay}
 use Rattle.lg_turn.proofs.Accounts.{numbers_map, seen_in-after_take, fits_after_take}
 

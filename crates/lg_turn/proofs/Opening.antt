@@ -15,7 +15,7 @@ use Rattle.lg_turn.specs.declared.view.View.{View}
 use Rattle.lg_turn.specs.Views.{blank}
 use Rattle.lg_turn.specs.Rule.{Fits, Knows, IsKept}
 use Rattle.lg_turn.specs.Steps.{beginning}
-use Rattle.lg_turn.proofs.Tests.{one_if_same, none_if_other}
+use Rattle.lg_turn.proofs.Counts.{one_if_same, none_if_other}
 
 module _ (I : Type 0) {B : Type 0} (over : B) where
   abbrev one : ℕ → Account I B → ℕ

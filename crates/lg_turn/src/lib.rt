@@ -6,10 +6,11 @@
 mod keeps;
 mod pass;
 mod rule;
+#[cfg(test)]
+mod tests;
 mod turn;
 mod view;
 
 pub use keeps::Keeps;
 pub use pass::Pass;
 pub use turn::Turn;
-pub use view::{Account, Stage, View};

@@ -31,6 +31,7 @@ const TICKET: usize = 0;
 const SERVING: usize = 1;
 
 /// A lock round one value, which passes take in the order in which they drew their tickets.
+#[derive(Drop)]
 pub struct Turn<V: Keeps> {
     table: Shelf<V>,
     ghost sized: { (table.shared.table_id.words ≡ 2) × (table.shared.table_id.slots ≡ 1) },
