@@ -1,5 +1,5 @@
 -- An advance keeps the rule: the value comes home with the entries of the pass that had it, and the next ticket is served.
-use Rattle.std.proofs.Common.{◌≡◌, ◌≢◌, ℕ, ◌+◌, ◌%◌, ◌^◌, ◌<◌, ◌≤◌, List, [], ◌∷◌, ◌++◌, set, get_or, arith, ap, sym, refl, ◌∙◌, inl, ⊎_elim, Option, Some}
+use Rattle.std.proofs.Common.{subst, ◌≡◌, ◌≢◌, ℕ, ◌+◌, ◌%◌, ◌^◌, ◌<◌, ◌≤◌, List, [], ◌∷◌, ◌++◌, set, get_or, arith, ap, sym, refl, ◌∙◌, inl, ⊎_elim, Option, Some}
 use mathlib.Core.Option.{Option as Maybe, some, none}
 use mathlib.Core.Logic.{dite}
 use native.Mathlib.Decide.{ℕ_discrete, dec_lt}
@@ -99,8 +99,8 @@ module _ {V I B : Type 0} (items : V → List I) (number : I → ℕ) (base : V 
           let moved : sum_by (with_ticket t) (set s.views id after) + with_ticket t before ≡ sum_by (with_ticket t) s.views + 0 = sum_by_set (with_ticket t) s.views id before after at in
           let b = k.apart t in
           dite (ℕ_discrete t k.serving)
-              (λ same. let one : with_ticket t before ≡ 1 = one_if_same t k.serving same in let most = b.0 in (omega arith, (λ h. omega arith), λ h. omega arith))
-              (λ other. let no : with_ticket t before ≡ 0 = none_if_other t k.serving other in let most = b.0 in (omega arith, (λ h. let z = b.1 (omega arith) in omega arith), λ h. let z = b.2 h in omega arith))
+          (λ same. let one : with_ticket t before ≡ 1 = one_if_same t k.serving same in let most = b.0 in (omega arith, (λ h. omega arith), λ h. omega arith))
+          (λ other. let no : with_ticket t before ≡ 0 = none_if_other t k.serving other in let most = b.0 in (omega arith, (λ h. let z = b.1 (omega arith) in omega arith), λ h. let z = b.2 h in omega arith))
 
       advanced : (value : V) → items value ≡ k.list ++ new → base value ≡ origin → Rule (stepped s 1 ((get_or s.words 1 0 + 1) % 2 ^ 64) id ((0, Some value) ∷ []) after gives)
       advanced value is over = record {
@@ -131,6 +131,11 @@ module _ {V I B : Type 0} (items : V → List I) (number : I → ℕ) (base : V 
           gives,
           tt,
           advanced s k id n own new own_new at' value longer (based ∙ over_is),
-          λ value' held. let same = same_value value value' held in let back : k.list ++ new ≡ items value' = sym longer ∙ ap items same in
-              λ i. (view_of (after_give (back i) (account_of n (sym over_is i) (sym seen_is i) own) ∷ []) Idle, []),
+          λ value' held.
+              let same = same_value value value' held in
+              let back : k.list ++ new ≡ items value' = sym longer ∙ ap items same in
+              let over' : origin ≡ base value' = sym (based ∙ over_is) ∙ ap base same in (
+                (λ i. (view_of (after_give (back i) (account_of n (sym over_is i) (sym seen_is i) own) ∷ []) Idle, [])),
+                subst (λ (z : B × List I). All (Fits items number base z.0 z.1) (after_give (k.list ++ new) (account_of n origin k.list own) ∷ [])) (λ i. (over' i, back i)) (i_know s k id n own new own_new at').fits,
+              ),
         )

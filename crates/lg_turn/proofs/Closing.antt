@@ -33,8 +33,8 @@ module _ {V I B : Type 0} (items : V → List I) (number : I → ℕ) (base : V 
         let v : View I B = view_of accounts Idle in
         let pass = holder_is_pass k.list k.serving h.1.accounts h.1.stage (k.each_pass h.0 h.1 h.2).stands h.3 in
         dite (ℕ_discrete id h.0)
-            (λ same. let z : values_of h.1 ≡ 0 = ap values_of (sym (some-injective v h.1 (sym at ∙ ap (get_elem? s.views) same ∙ h.2))) in let out = h.3 in absurd (omega arith))
-            (λ other. let two = two_parts-le-sum_by passes_of s.views id h.0 v h.1 other at h.2 in let most = k.passes in absurd (omega arith)))
+        (λ same. let z : values_of h.1 ≡ 0 = ap values_of (sym (some-injective v h.1 (sym at ∙ ap (get_elem? s.views) same ∙ h.2))) in let out = h.3 in absurd (omega arith))
+        (λ other. let two = two_parts-le-sum_by passes_of s.views id h.0 v h.1 other at h.2 in let most = k.passes in absurd (omega arith)))
 
     pub closes : (words : List ℕ) (slots : List (Option V)) → Final (Seen (IsKept items number base callers origin) id (view_of accounts Idle)) words slots → length accounts ≡ callers
         → (value : V) × (get_elem? slots 0 ≡ some (Some value)) × Ends callers origin accounts value
@@ -44,14 +44,14 @@ module _ {V I B : Type 0} (items : V → List I) (number : I → ℕ) (base : V 
         let at = last.1.1 in
         let quiet = nobody_holds s k at all_there in
         ⊎_elim
-            (λ home. (
-              home.0,
-              last.4 0 (Some home.0) (ap (λ (hs : List (Maybe (Option V))). get_elem? hs 0) home.1),
-              record {
-                base_is = home.3;
-                fits = subst (λ (l : List I). All (Fits items number base origin l) accounts) (sym home.2) (k.each_pass id (view_of accounts Idle) at).fits;
-                entered = subst (All (λ e. number e < callers)) (sym home.2) k.entered;
-              },
-            ))
-            (λ out. let one = out.1 in absurd (omega arith))
-            k.slot
+        (λ home. (
+          home.0,
+          last.4 0 (Some home.0) (ap (λ (hs : List (Maybe (Option V))). get_elem? hs 0) home.1),
+          record {
+            base_is = home.3;
+            fits = subst (λ (l : List I). All (Fits items number base origin l) accounts) (sym home.2) (k.each_pass id (view_of accounts Idle) at).fits;
+            entered = subst (All (λ e. number e < callers)) (sym home.2) k.entered;
+          },
+        ))
+        (λ out. let one = out.1 in absurd (omega arith))
+        k.slot

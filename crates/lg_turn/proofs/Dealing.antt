@@ -50,15 +50,15 @@ module _ {V I B : Type 0} (items : V → List I) (number : I → ℕ) (base : V 
       let fits = (k.each_pass id v at).fits in
       let same : (f : View I B → ℕ) → f l + f r ≡ f v → sum_by f (set s.views id l ++ r ∷ []) ≡ sum_by f s.views = λ f e. omega (arith, sum_by_push f (set s.views id l) r, sum_by_set f s.views id v l at, e) in
       with_views s k (set s.views id l ++ r ∷ [])
-          (λ i u e. ⊎_elim
-              (λ there. each_set (λ j x. P x) s.views id l record { fits = All-tail F a rest fits; stands = tt } (λ j x _ f. k.each_pass j x f) i u there)
-              (λ is. subst P is record { fits = All-cons F a [] (All-head F a rest fits) (All-nil F); stands = tt })
-              (at_snoc (set s.views id l) r u i e))
-          (same passes_of (omega arith))
-          (λ n. let one : Account I B → ℕ = λ b. if b.number == n then 1 else 0 in same (with_number n) (omega (arith, sum_by-cons one a rest, sum_by-cons one a [])))
-          (same values_of refl)
-          (same tickets_of refl)
-          (λ t. same (with_ticket t) refl)
+      (λ i u e. ⊎_elim
+      (λ there. each_set (λ j x. P x) s.views id l record { fits = All-tail F a rest fits; stands = tt } (λ j x _ f. k.each_pass j x f) i u there)
+      (λ is. subst P is record { fits = All-cons F a [] (All-head F a rest fits) (All-nil F); stands = tt })
+      (at_snoc (set s.views id l) r u i e))
+      (same passes_of (omega arith))
+      (λ n. let one : Account I B → ℕ = λ b. if b.number == n then 1 else 0 in same (with_number n) (omega (arith, sum_by-cons one a rest, sum_by-cons one a [])))
+      (same values_of refl)
+      (same tickets_of refl)
+      (λ t. same (with_ticket t) refl)
 
   pub collects : (id other : ℕ) (accounts others : List (Account I B)) → Joins Rule id (view_of accounts Idle) other (view_of others Idle) (put_together (view_of accounts Idle) (view_of others Idle)) spent
   collects id other accounts others s k at apart there =
@@ -71,10 +71,10 @@ module _ {V I B : Type 0} (items : V → List I) (number : I → ℕ) (base : V 
       let both = All-append F others accounts (k.each_pass other w theirs).fits (k.each_pass id v at).fits in
       let same : (f : View I B → ℕ) → f b + f spent ≡ f v + f w → sum_by f (set (set s.views id b) other spent) ≡ sum_by f s.views = λ f e. omega (arith, sum_by_set f (set s.views id b) other w spent there, sum_by_set f s.views id v b at, e) in
       with_views s k (set (set s.views id b) other spent)
-          (each_set (λ j x. P x) (set s.views id b) other spent record { fits = All-nil F; stands = tt }
-              (λ j x _ f. each_set (λ j x. P x) s.views id b record { fits = both; stands = tt } (λ j x _ f. k.each_pass j x f) j x f))
-          (same passes_of (omega (arith, length-append others accounts)))
-          (λ n. let one : Account I B → ℕ = λ a. if a.number == n then 1 else 0 in same (with_number n) (omega (arith, sum_by-append one others accounts)))
-          (same values_of refl)
-          (same tickets_of refl)
-          (λ t. same (with_ticket t) refl)
+      (each_set (λ j x. P x) (set s.views id b) other spent record { fits = All-nil F; stands = tt }
+      (λ j x _ f. each_set (λ j x. P x) s.views id b record { fits = both; stands = tt } (λ j x _ f. k.each_pass j x f) j x f))
+      (same passes_of (omega (arith, length-append others accounts)))
+      (λ n. let one : Account I B → ℕ = λ a. if a.number == n then 1 else 0 in same (with_number n) (omega (arith, sum_by-append one others accounts)))
+      (same values_of refl)
+      (same tickets_of refl)
+      (λ t. same (with_ticket t) refl)

@@ -31,8 +31,8 @@ module _ {V I B : Type 0} (items : V → List I) (number : I → ℕ) (base : V 
       let w = view_of accounts (Waits ticket) in
       let moved : sum_by (with_ticket t) (set views id w) + 0 ≡ sum_by (with_ticket t) views + cond (t == ticket) 1 0 = sum_by_set (with_ticket t) views id (view_of accounts Idle) w at in
       dite (ℕ_discrete t ticket)
-          (λ same. let one = one_if_same t ticket same in let none_before = before.2 (omega arith) in (omega arith, (λ h. absurd (omega arith)), λ h. absurd (omega arith)))
-          (λ other. let no = none_if_other t ticket other in let b = before.0 in (omega arith, (λ h. let z = before.1 h in omega arith), λ h. let z = before.2 (omega arith) in omega arith))
+      (λ same. let one = one_if_same t ticket same in let none_before = before.2 (omega arith) in (omega arith, (λ h. absurd (omega arith)), λ h. absurd (omega arith)))
+      (λ other. let no = none_if_other t ticket other in let b = before.0 in (omega arith, (λ h. let z = before.1 h in omega arith), λ h. let z = before.2 (omega arith) in omega arith))
 
   pub draws : (slots id : ℕ) (accounts : List (Account I B)) (carried : List (ℕ × Option V)) → 0 < length accounts
       → Allows (IsKept items number base callers origin) slots id (view_of accounts Idle, carried) 0 (λ n. (n + 1) % 2 ^ 64) (Draws (step slots 0 1 0 none) (view_of accounts Idle, carried))

@@ -59,8 +59,8 @@ module _ {V I B : Type 0} (items : V → List I) (number : I → ℕ) (base : V 
         let theirs = holder_serves k.list k.serving h.1.accounts h.1.stage (k.each_pass h.0 h.1 h.2).stands h.3 in
         let mine = one_if_same k.serving k.serving refl in
         dite (ℕ_discrete id h.0)
-            (λ same. let z : values_of h.1 ≡ 0 = ap values_of (sym (some-injective v h.1 (sym at ∙ ap (get_elem? s.views) same ∙ h.2))) in let some_out = h.3 in omega arith)
-            (λ other. let two = two_parts-le-sum_by (with_ticket k.serving) s.views id h.0 v h.1 other at h.2 in let most = (k.apart k.serving).0 in omega arith)
+        (λ same. let z : values_of h.1 ≡ 0 = ap values_of (sym (some-injective v h.1 (sym at ∙ ap (get_elem? s.views) same ∙ h.2))) in let some_out = h.3 in omega arith)
+        (λ other. let two = two_parts-le-sum_by (with_ticket k.serving) s.views id h.0 v h.1 other at h.2 in let most = (k.apart k.serving).0 in omega arith)
 
     -- a look that finds another ticket changes nothing
     unserved : (s : State (Option V) (View I B)) (k : Rule s) (id : ℕ) (v : View I B) → get_elem? s.views id ≡ some v → (carried : List (ℕ × Option V)) → Rule (stepped s 1 (get_or s.words 1 0) id carried v keeps)
@@ -101,22 +101,22 @@ module _ {V I B : Type 0} (items : V → List I) (number : I → ℕ) (base : V 
         let at' : get_elem? s.views id ≡ some (view_of accounts (Waits k.serving)) = at ∙ ap (λ (n : ℕ). some (view_of accounts (Waits n))) is in
         let known = (k.each_pass id (view_of accounts (Waits k.serving)) at').fits in
         ⊎_elim
-            (λ home. (
-              after s k id accounts at' home.0 home.1 home.4,
-              takes 0 (Some home.0),
-              ap (λ (hs : List (Maybe (Option V))). get_elem? hs 0) home.1,
-              served s k id accounts at' home.0 home.1 home.4,
-              λ u waits. let tu : t ≡ u = cc in (
-                (λ same. (
-                  home.0,
-                  (λ i. (view_of (map (after_take (sym home.2 i)) accounts) (Holds ((sym is ∙ tu) i)), (0, Some home.0) ∷ [])),
-                  subst (λ (z : B × List I). All (Fits items number base z.0 z.1) accounts) (λ i. (sym home.3 i, sym home.2 i)) known,
-                )),
-                (λ other. absurd (other (ap (λ (n : ℕ). n % 2 ^ 64) (sym tu) ∙ sym found))),
-              ),
-            ))
-            (λ out. absurd (nobody_holds s k id accounts at' (let n = out.1 in omega arith)))
-            k.slot
+        (λ home. (
+          after s k id accounts at' home.0 home.1 home.4,
+          takes 0 (Some home.0),
+          ap (λ (hs : List (Maybe (Option V))). get_elem? hs 0) home.1,
+          served s k id accounts at' home.0 home.1 home.4,
+          λ u waits. let tu : t ≡ u = cc in (
+            (λ same. (
+              home.0,
+              (λ i. (view_of (map (after_take (sym home.2 i)) accounts) (Holds ((sym is ∙ tu) i)), (0, Some home.0) ∷ [])),
+              subst (λ (z : B × List I). All (Fits items number base z.0 z.1) accounts) (λ i. (sym home.3 i, sym home.2 i)) known,
+            )),
+            (λ other. absurd (other (ap (λ (n : ℕ). n % 2 ^ 64) (sym tu) ∙ sym found))),
+          ),
+        ))
+        (λ out. absurd (nobody_holds s k id accounts at' (let n = out.1 in omega arith)))
+        k.slot
 
     -- what a look asks, where another ticket is served
     looks_unserved : (slots id t : ℕ) (accounts : List (Account I B)) (s : State (Option V) (View I B)) (k : Rule s) → get_elem? s.views id ≡ some (view_of accounts (Waits t)) → get_or s.words 1 0 ≢ t % 2 ^ 64
@@ -133,5 +133,5 @@ module _ {V I B : Type 0} (items : V → List I) (number : I → ℕ) (base : V 
     looks slots id t accounts s k sized at small =
         let found : get_or s.words 1 0 ≡ k.serving % 2 ^ 64 = ap (λ (l : List ℕ). get_or l 1 0) k.words in
         dite (ℕ_discrete (get_or s.words 1 0) (t % 2 ^ 64))
-            (λ same. looks_served slots id t accounts s k at (is_served s k id t accounts at (sym same ∙ found)) same)
-            (λ other. looks_unserved slots id t accounts s k at other)
+        (λ same. looks_served slots id t accounts s k at (is_served s k id t accounts at (sym same ∙ found)) same)
+        (λ other. looks_unserved slots id t accounts s k at other)

@@ -29,8 +29,8 @@ module _ (I : Type 0) {B : Type 0} (over : B) where
       let both = sum_by-cons (one n) (blank over low) (map (blank over) (range_with_len (low + 1) count)) in
       let most = rest.0 in
       dite (ℕ_discrete low n)
-          (λ same. let this : one n (blank over low) ≡ 1 = one_if_same low n same in let behind = rest.1 (omega arith) in (omega arith, (λ h. absurd (omega arith)), λ h. absurd (omega arith)))
-          (λ other. let this : one n (blank over low) ≡ 0 = none_if_other low n other in (omega arith, (λ h. let behind = rest.1 (omega arith) in omega arith), λ h. let behind = rest.2 (omega arith) in omega arith))
+      (λ same. let this : one n (blank over low) ≡ 1 = one_if_same low n same in let behind = rest.1 (omega arith) in (omega arith, (λ h. absurd (omega arith)), λ h. absurd (omega arith)))
+      (λ other. let this : one n (blank over low) ≡ 0 = none_if_other low n other in (omega arith, (λ h. let behind = rest.1 (omega arith) in omega arith), λ h. let behind = rest.2 (omega arith) in omega arith))
 
 module _ {V I B : Type 0} (items : V → List I) (number : I → ℕ) (base : V → B) (callers : ℕ) (value : V) where
   begins_known : (i : ℕ) (v : View I B) → get_elem? (beginning callers (base value) ∷ []) i ≡ some v → Knows items number base (base value) [] 0 v

@@ -67,6 +67,8 @@ module _ {V I B : Type 0} (items : V → List I) (number : I → ℕ) (base : V 
       (t : ℕ) × (n : ℕ) × (seen : List I) × (own : List I) × (new : List I) × (v ≡ view_of (account_of n (base value) seen own ∷ []) (Holds t))
       × (items value ≡ seen ++ new) × All (λ e. number e ≡ n) new
 
-  -- the value went home
+  -- the value went home, and what the pass knows now fits it
   abbrev pub Advances : Step (Option V) → Me (Option V) (View I B) → ℕ → Me (Option V) (View I B) → Type 0
-  Advances st me found me' = (value : V) → me.1 ≡ (0, Some value) ∷ [] → me' ≡ (view_of (map (after_give (items value)) me.0.accounts) Idle, [])
+  Advances st me found me' =
+      (value : V) → me.1 ≡ (0, Some value) ∷ [] → (me' ≡ (view_of (map (after_give (items value)) me.0.accounts) Idle, []))
+      × All (Fits items number base (base value) (items value)) me'.0.accounts

@@ -5,6 +5,7 @@
 
 mod keeps;
 mod pass;
+mod rounds;
 mod rule;
 #[cfg(test)]
 mod tests;

@@ -1,48 +1,11 @@
-ghost use Rattle.std.specs.Prelude.{◌≡◌, ◌++◌, [], ◌∷◌, ◌<◌, ◌≤◌, length, map, All, IfOk};
-ghost use Rattle.lg_turn.specs.Passes.{number_of, own_of, IsAway, IsPassOf, IsSamePass, callers_of};
+ghost use Rattle.lg_turn.specs.Passes.{IsAway, IsPassOf};
 
-use crate::{Keeps, Pass, Turn};
+use crate::rounds::{Rounds, enter, finish};
+use crate::{Pass, Turn};
 use std::alloc::{AllocError, Global};
 use std::sync::Wait;
 use std::test::Fail;
-use std::thread::{Threads, for_each_mut};
-
-// Rounds, each with the number of the pass that made it and a count of its own.
-#[derive(Drop)]
-struct Rounds {
-    first: u32,
-    made: Vec<(u32, u32)>,
-}
-
-impl Keeps for Rounds {
-    type Item = (u32, u32);
-
-    type Base = u32;
-
-    ghost items = { λ rounds. rounds.made.items };
-
-    ghost number = { λ round. round.0 };
-
-    ghost base = { λ rounds. rounds.first };
-}
-
-// Takes the turn, makes one round, and gives the turn back.
-fn enter<R: Wait>(
-    rt: &R,
-    turn: &Turn<Rounds>,
-    pass: &mut Pass<Rounds>,
-    count: u32,
-) -> Result<(), AllocError>
-    requires turn { IsPassOf turn.now pass.old × IsAway pass.old }
-    ensures turn { IsPassOf turn.now pass.new × IsAway pass.new }
-    ensures entered { IfOk result (λ _. own_of pass.new ≡ own_of pass.old ++ (number_of pass.old, count) ∷ []) }
-{
-    let mut rounds = turn.take(rt, pass);
-    let pushed = rounds.made.push((pass.number(), count));
-    turn.give(pass, rounds);
-    pushed?;
-    Ok(())
-}
+use std::thread::for_each_mut;
 
 // The numbers of the passes that make_all gives, and what close_all answers where none took the turn.
 #[test]
@@ -55,7 +18,7 @@ fn passes_have_the_numbers_from_0_on(rt: HostRuntime) -> Result<(), Fail> {
         panic!(rt; "there is memory")
     };
     let numbers = [passes[0].number(), passes[1].number(), passes[2].number()];
-    let rounds = turn.close_all(passes);
+    let rounds = finish(turn, passes);
     assert_eq!(rt; numbers, [0, 1, 2]);
     assert_eq!(rt; (rounds.first, rounds.made.len()), (7, 0));
     Ok(())
@@ -96,14 +59,23 @@ fn two_threads_enter_a_hundred_rounds_each(rt: HostRuntime) -> Result<(), Fail> 
     let Ok((turn, mut passes)) = Turn::make_all(rt.alloc(), rounds, 2) else {
         panic!(rt; "there is memory")
     };
-    for_each_mut(&rt, passes.as_mut_slice(), 2, &|_, pass| {
-        assert!(rt; enter_hundred(&rt, &turn, pass));
-    });
-    let rounds = turn.close_all(passes);
+    for_each_mut(
+        &rt,
+        passes.as_mut_slice(),
+        2,
+        &|_, pass| {
+            assert!(rt; enter_hundred(&rt, &turn, pass));
+        },
+    );
+    let rounds = finish(turn, passes);
     let hundred: Vec<u32> = (0..100).collect(rt.alloc())?;
     assert_eq!(rt; rounds.made.len(), 200);
     for number in 0..2 {
-        assert_eq!(rt; counts_of(rt.alloc(), &rounds, number)?, hundred, "{number}");
+        assert_eq!(rt;
+            counts_of(rt.alloc(), &rounds, number)?,
+            hundred,
+            "{number}"
+        );
     }
     Ok(())
 }

@@ -17,10 +17,22 @@ fn collect<V: Keeps>(words: &Words<V>, mut passes: Vec<Pass<V>>) -> Seating<V>
     ensures turn { result.table_id ≡ words.entry.now.table_id }
     ensures all { result.me ≡ (view_of (flat_map accounts_of passes.items) Idle, []) }
 {
-    let Some(Pass { number: _, mut seat }) = passes.pop() else {
+    let Some(
+        Pass {
+            number: _,
+            mut seat,
+        },
+    ) = passes.pop()
+    else {
         unreachable!()
     };
-    while let Some(Pass { number: _, seat: other }) = passes.pop() {
+    while let Some(
+        Pass {
+            number: _,
+            seat: other,
+        },
+    ) = passes.pop()
+    {
         words.join_seat::<Collect>(&mut seat, other);
     }
     seat

@@ -1,7 +1,8 @@
 //! How a pass gives the value back: first into the slot, and then the next ticket is served.
-ghost use Rattle.std.specs.Prelude.{◌≡◌, ℕ, ◌<◌, [], ◌∷◌, ◌++◌, length, map, drop, Some, None};
+ghost use Rattle.std.specs.Prelude.{◌≡◌, ℕ, ◌<◌, [], ◌∷◌, ◌++◌, length, map, drop, All, Some, None};
 ghost use Rattle.lg_turn.specs.declared.view.Stage.TheVariants.{Idle};
-ghost use Rattle.lg_turn.specs.Views.{view_of};
+ghost use Rattle.lg_turn.specs.Views.{of_pass, view_of};
+ghost use Rattle.lg_turn.specs.Rule.{Fits};
 ghost use Rattle.lg_turn.specs.Steps.{MayGive, after_give};
 ghost use Rattle.lg_turn.specs.Passes.{number_of, base_of, seen_by, own_of, IsAway, HasTurn, IsPassOf, IsSamePass, AddsAtMostOne};
 
@@ -28,6 +29,7 @@ fn bring_home<V: Keeps>(words: &Words<V>, seat: &mut Seating<V>, value: V)
     requires may_give { MayGive V.items V.number V.base seat.old.me.0 value }
     ensures same { (seat.new.table_id ≡ seat.old.table_id) × (seat.new.id ≡ seat.old.id) }
     ensures given { seat.new.me ≡ (view_of (map (after_give (V.items value)) seat.old.me.0.accounts) Idle, []) }
+    ensures fits { All (Fits V.items V.number V.base (V.base value) (V.items value)) seat.new.me.0.accounts }
 {
     put_back(words, seat, value);
     words.fetch_add::<Advance>(seat, SERVING, 1);
@@ -36,7 +38,8 @@ fn bring_home<V: Keeps>(words: &Words<V>, seat: &mut Seating<V>, value: V)
 
 impl<V: Keeps> Turn<V> {
     /// Gives the value back. Its list may be longer by one entry, which has the number of the pass. The pass has then
-    /// seen this list, and the entry is the last of its own. It takes no memory and waits for nobody.
+    /// seen this list, and the entry is the last of its own. The list has all entries that the pass made, and none else
+    /// of its number. It takes no memory and waits for nobody.
     pub fn give(&self, pass: &mut Pass<V>, value: V)
         requires turn { IsPassOf self.now pass.old }
         requires has { HasTurn pass.old }
@@ -45,7 +48,8 @@ impl<V: Keeps> Turn<V> {
         ensures same { IsSamePass pass.old pass.new }
         ensures away { IsAway pass.new }
         ensures seen { seen_by pass.new ≡ V.items value }
-        ensures own { own_of pass.new ≡ own_of pass.old ++ drop (length (seen_by pass.old)) (V.items value) }
+        ensures added { own_of pass.new ≡ own_of pass.old ++ drop (length (seen_by pass.old)) (V.items value) }
+        ensures own { of_pass V.number (number_of pass.new) (V.items value) ≡ own_of pass.new }
     {
         bring_home(&self.table.shared, &mut pass.seat, value);
     }

@@ -38,11 +38,7 @@ fn only<V>(mut slots: Vec<Option<V>>) -> V
 }
 
 // A table with the value in its slot, and the seat that answers for all passes.
-fn open<V: Keeps>(
-    alloc: Global,
-    value: V,
-    terms: &Terms<V>,
-) -> Result<(Shelf<V>, Seating<V>), V>
+fn open<V: Keeps>(alloc: Global, value: V, terms: &Terms<V>) -> Result<(Shelf<V>, Seating<V>), V>
     requires first { terms.now.first.value ≡ value }
     requires few { terms.now.callers ≤ 65 }
     requires empty { V.items value ≡ [] }

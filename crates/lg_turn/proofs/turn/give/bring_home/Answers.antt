@@ -22,7 +22,7 @@ fetch_add-requires g c =
       omega (arith, c.requires.turn.1),
       subst
           (λ (me : Me (Option g.row.V.Denot) (View g.row.V-Item.Denot g.row.V-Base.Denot)).
-              Allows (IsKept k.items k.number k.base terms.callers (k.base terms.first.value)) slots seat.id me 1 (λ m. (m + 1) % 2 ^ 64) (Advances k.items k.number k.base (step slots 1 1 0 none) me))
+          Allows (IsKept k.items k.number k.base terms.callers (k.base terms.first.value)) slots seat.id me 1 (λ m. (m + 1) % 2 ^ 64) (Advances k.items k.number k.base (step slots 1 1 0 none) me))
           (sym is)
           (advances k.items k.number k.base terms.callers (k.base terms.first.value) slots seat.id may.0 may.1 (k.base value) may.2 may.3 may.4 value refl may.6 may.7),
     )
@@ -30,5 +30,8 @@ fetch_add-requires g c =
 pub returns-clause-given : goal.returns-clause-given
 returns-clause-given g c =
     let filled = c.put_back.ensures.filled in
-    c.fetch_add.ensures.2 c.args.value (ap (λ (me : Me (Option g.row.V.Denot) (View g.row.V-Item.Denot g.row.V-Base.Denot)). me.1) filled)
-        ∙ ap (λ (me : Me (Option g.row.V.Denot) (View g.row.V-Item.Denot g.row.V-Base.Denot)). (view_of (map (after_give (g.V.Keeps.items c.args.value)) me.0.accounts) Idle, [])) filled
+    (c.fetch_add.ensures.2 c.args.value (ap (λ (me : Me (Option g.row.V.Denot) (View g.row.V-Item.Denot g.row.V-Base.Denot)). me.1) filled)).0
+    ∙ ap (λ (me : Me (Option g.row.V.Denot) (View g.row.V-Item.Denot g.row.V-Base.Denot)). (view_of (map (after_give (g.V.Keeps.items c.args.value)) me.0.accounts) Idle, [])) filled
+
+pub returns-clause-fits : goal.returns-clause-fits
+returns-clause-fits g c = (c.fetch_add.ensures.2 c.args.value (ap (λ (me : Me (Option g.row.V.Denot) (View g.row.V-Item.Denot g.row.V-Base.Denot)). me.1) c.put_back.ensures.filled)).1

@@ -11,6 +11,6 @@ new-requires g c =
     let callers = c.args.terms.now.callers in
     let one : c.push_reserved.new.self.items ≡ Some c.args.value ∷ [] = c.push_reserved.ensures.items ∙ ap (λ (l : List (Option g.row.V.Denot)). l ++ Some c.args.value ∷ []) c.in-Ok.ensures.items in
     subst
-        (λ (z : List (Option g.row.V.Denot) × g.row.V.Denot). IsKept k.items k.number k.base callers (k.base z.1) (opening (0 ∷ 0 ∷ []) z.0 (beginning callers (k.base z.1))))
-        (λ i. (sym one i, sym c.requires.first i))
-        (opens k.items k.number k.base callers c.args.value c.requires.few c.requires.empty)
+    (λ (z : List (Option g.row.V.Denot) × g.row.V.Denot). IsKept k.items k.number k.base callers (k.base z.1) (opening (0 ∷ 0 ∷ []) z.0 (beginning callers (k.base z.1))))
+    (λ i. (sym one i, sym c.requires.first i))
+    (opens k.items k.number k.base callers c.args.value c.requires.few c.requires.empty)

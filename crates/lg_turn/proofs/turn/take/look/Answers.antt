@@ -18,7 +18,7 @@ load-requires g c =
       omega (arith, c.requires.turn.1),
       subst
           (λ (me : Me (Option g.row.V.Denot) (View g.row.V-Item.Denot g.row.V-Base.Denot)).
-              Allows (IsKept k.items k.number k.base terms.callers (k.base terms.first.value)) slots seat.id me 1 (λ n. n) (Looks k.items k.number k.base (step slots 1 0 0 none) me))
+          Allows (IsKept k.items k.number k.base terms.callers (k.base terms.first.value)) slots seat.id me 1 (λ n. n) (Looks k.items k.number k.base (step slots 1 0 0 none) me))
           (sym waits.2)
           (looks k.items k.number k.base terms.callers (k.base terms.first.value) slots seat.id waits.0 seat.me.0.accounts),
     )

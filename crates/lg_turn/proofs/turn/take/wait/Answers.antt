@@ -8,6 +8,6 @@ pub returns-then-served-ticket-clause-served : goal.returns-then-served-ticket-c
 returns-then-served-ticket-clause-served g c =
     let k = g.V.Keeps in
     subst
-        (λ (me : Me (Option g.row.V.Denot) (View g.row.V-Item.Denot g.row.V-Base.Denot)). HasTaken k.items k.number k.base me.0.accounts c.look-served.new.seat.me)
-        c.loop.invariant.0
-        (c.look-served.ensures.served c.if-served-ticket.true)
+    (λ (me : Me (Option g.row.V.Denot) (View g.row.V-Item.Denot g.row.V-Base.Denot)). HasTaken k.items k.number k.base me.0.accounts c.look-served.new.seat.me)
+    c.loop.invariant.0
+    (c.look-served.ensures.served c.if-served-ticket.true)
