@@ -12,3 +12,4 @@ pub mod Closing
 pub mod One
 pub mod Handing
 pub mod Gathering
+pub mod Shares

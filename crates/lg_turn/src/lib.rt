@@ -4,6 +4,7 @@
 #![tactic(auto)]
 
 mod keeps;
+pub mod laws;
 mod pass;
 mod rounds;
 mod rule;

@@ -1,0 +1,35 @@
+//! What the definitions come to.
+ghost use Rattle.std.specs.Prelude.{◌≡◌, ◌≢◌, ℕ, ◌<◌, List, [], ◌∷◌, ◌++◌, length, All, sum_by};
+ghost use Rattle.std.specs.List.{range_with_len};
+ghost use mathlib.Core.Option.{some};
+ghost use lib.ListN.{get_elem?};
+ghost use Rattle.atomic_table.specs.Table.{State};
+ghost use Rattle.lg_turn.specs.declared.view.View.{View};
+ghost use Rattle.lg_turn.specs.declared.view.Stage.TheVariants.{Holds};
+ghost use Rattle.lg_turn.specs.Views.{of_pass};
+ghost use Rattle.lg_turn.specs.Rule.{IsKept};
+
+use crate::keeps::Keeps;
+
+/// Where each entry has the number of a caller, the entries of all callers, counted together, are those of the list.
+pub fn each_entry_is_of_one_pass<V: Keeps>()
+    ensures { (list : List V.Item) (callers : ℕ) → All (λ e. V.number e < callers) list
+        → sum_by (λ n. length (of_pass V.number n list)) (range_with_len 0 callers) ≡ length list }
+{}
+
+/// An entry behind the list is the last one of its pass.
+pub fn added_to_its_pass<V: Keeps>()
+    ensures { (list : List V.Item) (e : V.Item) → of_pass V.number (V.number e) (list ++ e ∷ []) ≡ of_pass V.number (V.number e) list ++ e ∷ [] }
+{}
+
+/// An entry behind the list changes nothing for other passes.
+pub fn others_stay<V: Keeps>()
+    ensures { (list : List V.Item) (e : V.Item) (n : ℕ) → n ≢ V.number e → of_pass V.number n (list ++ e ∷ []) ≡ of_pass V.number n list }
+{}
+
+/// Two seats never have the value at once.
+pub fn one_at_a_time<V: Keeps>()
+    ensures { (callers : ℕ) (base : V.Base) (s : State _ (View V.Item V.Base)) (i j t u : ℕ) (v w : View V.Item V.Base)
+        → IsKept V.items V.number V.base callers base s
+        → get_elem? s.views i ≡ some v → v.stage ≡ Holds t → get_elem? s.views j ≡ some w → w.stage ≡ Holds u → i ≡ j }
+{}
