@@ -1,5 +1,5 @@
 -- The entries of all passes, counted together; and who has the value.
-use Rattle.std.proofs.Common.{◌≡◌, ◌≢◌, ℕ, zero, suc, ◌+◌, ◌<◌, ◌≤◌, List, [], ◌∷◌, length, arith, ap, refl, ◌∙◌, cond, Bool, true, false, ⊎_elim, Option}
+use Rattle.std.proofs.Common.{◌≡◌, ℕ, zero, suc, ◌+◌, ◌<◌, ◌≤◌, List, [], ◌∷◌, length, arith, ap, refl, cond, Bool, true, false, ⊎_elim, Option}
 use mathlib.Core.Option.{some}
 use mathlib.Core.Logic.{dite}
 use native.Mathlib.Decide.{ℕ_discrete}
@@ -32,8 +32,8 @@ sum_once m low zero h k = absurd (omega arith)
 sum_once m low (suc count) h k =
     let both = sum_by-cons (is_one m) low (range_with_len (low + 1) count) in
     dite (ℕ_discrete m low)
-        (λ same. omega (arith, one_if_same m low same, sum_none m (low + 1) count (omega arith), both))
-        (λ other. omega (arith, none_if_other m low other, sum_once m (low + 1) count (omega arith) (omega arith), both))
+    (λ same. omega (arith, one_if_same m low same, sum_none m (low + 1) count (omega arith), both))
+    (λ other. omega (arith, none_if_other m low other, sum_once m (low + 1) count (omega arith) (omega arith), both))
 
 sum_zero : (xs : List ℕ) → sum_by (λ n. 0) xs ≡ 0
 sum_zero [] = refl
@@ -52,8 +52,12 @@ module _ {I : Type 0} (number : I → ℕ) where
   each_entry_once (e ∷ rest) callers all =
       let P : I → Type 0 = λ x. number x < callers in
       let here : number e < callers = All-head P e rest all in
-      omega (arith, sum_by-add (is_one (number e)) (λ n. length (of_pass number n rest)) (λ n. length (of_pass number n (e ∷ rest))) (range_with_len 0 callers) (λ n. length-of_pass n e rest),
-          sum_once (number e) 0 callers (omega arith) (omega arith), each_entry_once rest callers (All-tail P e rest all))
+      omega (
+        arith,
+        sum_by-add (is_one (number e)) (λ n. length (of_pass number n rest)) (λ n. length (of_pass number n (e ∷ rest))) (range_with_len 0 callers) (λ n. length-of_pass n e rest),
+        sum_once (number e) 0 callers (omega arith) (omega arith),
+        each_entry_once rest callers (All-tail P e rest all),
+      )
 
 module _ {V I B : Type 0} (items : V → List I) (number : I → ℕ) (base : V → B) where
   pub one_holder : (callers : ℕ) (origin : B) (s : State (Option V) (View I B)) (i j t u : ℕ) (v w : View I B) → IsKept items number base callers origin s

@@ -14,9 +14,7 @@ fn passes_have_the_numbers_from_0_on(rt: HostRuntime) -> Result<(), Fail> {
         first: 7,
         made: Vec::new(rt.alloc()),
     };
-    let Ok((turn, passes)) = Turn::make_all(rt.alloc(), rounds, 3) else {
-        panic!(rt; "there is memory")
-    };
+    let (turn, passes) = Turn::make_all(rt.alloc(), rounds, 3).map_err(|back| back.1)?;
     let numbers = [passes[0].number(), passes[1].number(), passes[2].number()];
     let rounds = finish(turn, passes);
     assert_eq!(rt; numbers, [0, 1, 2]);
@@ -56,9 +54,7 @@ fn two_threads_enter_a_hundred_rounds_each(rt: HostRuntime) -> Result<(), Fail> 
         first: 1,
         made: Vec::new(rt.alloc()),
     };
-    let Ok((turn, mut passes)) = Turn::make_all(rt.alloc(), rounds, 2) else {
-        panic!(rt; "there is memory")
-    };
+    let (turn, mut passes) = Turn::make_all(rt.alloc(), rounds, 2).map_err(|back| back.1)?;
     for_each_mut(
         &rt,
         passes.as_mut_slice(),

@@ -12,11 +12,16 @@ use crate::view::View;
 use atomic_table::{Seat, Shared, Table};
 use std::alloc::Global;
 
-type Seating<V> = Seat<Option<V>, View<<V as Keeps>::Item, <V as Keeps>::Base>>;
+type SeatOf<V> = Seat<Option<V>, View<<V as Keeps>::Item, <V as Keeps>::Base>>;
 
-type Words<V> = Shared<Option<V>, View<<V as Keeps>::Item, <V as Keeps>::Base>, Terms<V>, OneList>;
+type SharedOf<V> = Shared<
+    Option<V>,
+    View<<V as Keeps>::Item, <V as Keeps>::Base>,
+    Terms<V>,
+    OneList,
+>;
 
-type Shelf<V> = Table<
+type TableOf<V> = Table<
     Option<V>,
     View<<V as Keeps>::Item, <V as Keeps>::Base>,
     Terms<V>,
@@ -33,7 +38,7 @@ const SERVING: usize = 1;
 /// A lock round one value, which passes take in the order in which they drew their tickets.
 #[derive(Drop)]
 pub struct Turn<V: Keeps> {
-    table: Shelf<V>,
+    table: TableOf<V>,
     ghost sized: { (table.shared.table_id.words ≡ 2) × (table.shared.table_id.slots ≡ 1) },
     ghost few: { (0 < table.shared.key.callers) × (table.shared.key.callers ≤ 65) },
 }

@@ -4,17 +4,17 @@ ghost use Rattle.lg_turn.specs.declared.view.Stage.TheVariants.{Idle};
 ghost use Rattle.lg_turn.specs.Views.{BeginsWith, of_pass, view_of};
 ghost use Rattle.lg_turn.specs.Passes.{number_of, base_of, seen_by, own_of, IsAway, IsPassOf, accounts_of, callers_of, origin_of};
 
-use super::{Seating, Turn, Words};
+use super::{SeatOf, SharedOf, Turn};
 use crate::keeps::Keeps;
 use crate::pass::Pass;
 use crate::rule::Collect;
 
 // One seat that answers for all passes.
-fn collect<V: Keeps>(words: &Words<V>, mut passes: Vec<Pass<V>>) -> Seating<V>
-    requires turn { words.now.table_id.words ≡ 2 }
+fn collect<V: Keeps>(shared: &SharedOf<V>, mut passes: Vec<Pass<V>>) -> SeatOf<V>
+    requires turn { shared.now.table_id.words ≡ 2 }
     requires some { 0 < length passes.items }
-    requires passes { All (λ p. (p.seat.table_id ≡ words.now.table_id) × IsAway p) passes.items }
-    ensures turn { result.table_id ≡ words.entry.now.table_id }
+    requires passes { All (λ p. (p.seat.table_id ≡ shared.now.table_id) × IsAway p) passes.items }
+    ensures turn { result.table_id ≡ shared.entry.now.table_id }
     ensures all { result.me ≡ (view_of (flat_map accounts_of passes.items) Idle, []) }
 {
     let Some(
@@ -33,7 +33,7 @@ fn collect<V: Keeps>(words: &Words<V>, mut passes: Vec<Pass<V>>) -> Seating<V>
         },
     ) = passes.pop()
     {
-        words.join_seat::<Collect>(&mut seat, other);
+        shared.join_seat::<Collect>(&mut seat, other);
     }
     seat
 }

@@ -6,34 +6,34 @@ ghost use Rattle.lg_turn.specs.Rule.{Fits};
 ghost use Rattle.lg_turn.specs.Steps.{MayGive, after_give};
 ghost use Rattle.lg_turn.specs.Passes.{number_of, base_of, seen_by, own_of, IsAway, HasTurn, IsPassOf, IsSamePass, AddsAtMostOne};
 
-use super::{SERVING, Seating, Turn, Words};
+use super::{SERVING, SeatOf, SharedOf, Turn};
 use crate::keeps::Keeps;
 use crate::pass::Pass;
 use crate::rule::Advance;
 
 // Moves the value into the slot.
-fn put_back<V: Keeps>(words: &Words<V>, seat: &mut Seating<V>, value: V)
-    requires turn { seat.old.table_id ≡ words.now.table_id }
+fn put_back<V: Keeps>(shared: &SharedOf<V>, seat: &mut SeatOf<V>, value: V)
+    requires turn { seat.old.table_id ≡ shared.now.table_id }
     requires empty { seat.old.me.1 ≡ (0, None) ∷ [] }
     ensures same { (seat.new.table_id ≡ seat.old.table_id) × (seat.new.id ≡ seat.old.id) }
     ensures filled { seat.new.me ≡ (seat.old.me.0, (0, Some value) ∷ []) }
 {
-    let before = words.exchange(seat, 0, Some(value));
+    let before = shared.exchange(seat, 0, Some(value));
     let None = before else { unreachable!() };
 }
 
 // Brings the value home, and then serves the next ticket.
-fn bring_home<V: Keeps>(words: &Words<V>, seat: &mut Seating<V>, value: V)
-    requires turn { (seat.old.table_id ≡ words.now.table_id) × (words.now.table_id.words ≡ 2) }
+fn bring_home<V: Keeps>(shared: &SharedOf<V>, seat: &mut SeatOf<V>, value: V)
+    requires turn { (seat.old.table_id ≡ shared.now.table_id) × (shared.now.table_id.words ≡ 2) }
     requires empty { seat.old.me.1 ≡ (0, None) ∷ [] }
     requires may_give { MayGive V.items V.number V.base seat.old.me.0 value }
     ensures same { (seat.new.table_id ≡ seat.old.table_id) × (seat.new.id ≡ seat.old.id) }
     ensures given { seat.new.me ≡ (view_of (map (after_give (V.items value)) seat.old.me.0.accounts) Idle, []) }
     ensures fits { All (Fits V.items V.number V.base (V.base value) (V.items value)) seat.new.me.0.accounts }
 {
-    put_back(words, seat, value);
-    words.fetch_add::<Advance>(seat, SERVING, 1);
-    words.wake_all(SERVING);
+    put_back(shared, seat, value);
+    shared.fetch_add::<Advance>(seat, SERVING, 1);
+    shared.wake_all(SERVING);
 }
 
 impl<V: Keeps> Turn<V> {

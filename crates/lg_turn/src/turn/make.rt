@@ -6,7 +6,7 @@ ghost use Rattle.lg_turn.specs.Views.{blank, view_of};
 ghost use Rattle.lg_turn.specs.Steps.{beginning};
 ghost use Rattle.lg_turn.specs.Passes.{number_of, IsNew, IsPassOf, callers_of, origin_of};
 
-use super::{Seating, Shelf, Turn, Words};
+use super::{SeatOf, SharedOf, TableOf, Turn};
 use crate::keeps::Keeps;
 use crate::pass::Pass;
 use crate::rule::{Deal, Terms};
@@ -38,7 +38,7 @@ fn only<V>(mut slots: Vec<Option<V>>) -> V
 }
 
 // A table with the value in its slot, and the seat that answers for all passes.
-fn open<V: Keeps>(alloc: Global, value: V, terms: &Terms<V>) -> Result<(Shelf<V>, Seating<V>), V>
+fn open<V: Keeps>(alloc: Global, value: V, terms: &Terms<V>) -> Result<(TableOf<V>, SeatOf<V>), V>
     requires first { terms.now.first.value ≡ value }
     requires few { terms.now.callers ≤ 65 }
     requires empty { V.items value ≡ [] }
@@ -57,7 +57,7 @@ fn open<V: Keeps>(alloc: Global, value: V, terms: &Terms<V>) -> Result<(Shelf<V>
 }
 
 // The pass for which a seat answers.
-fn pass_at<V: Keeps>(number: u32, seat: Seating<V>) -> Pass<V>
+fn pass_at<V: Keeps>(number: u32, seat: SeatOf<V>) -> Pass<V>
     requires { (base : V.Base) × (seat.me ≡ (view_of (blank base number ∷ []) Idle, [])) }
     ensures same { (result.seat ≡ seat) × (result.number ≡ number) }
 {
@@ -66,19 +66,19 @@ fn pass_at<V: Keeps>(number: u32, seat: Seating<V>) -> Pass<V>
 
 // Hands out the passes, one after another, each with a seat cut off the first one.
 fn deal<V: Keeps>(
-    words: &Words<V>,
-    mut seat: Seating<V>,
+    shared: &SharedOf<V>,
+    mut seat: SeatOf<V>,
     mut passes: Vec<Pass<V>>,
     callers: u32,
 ) -> Vec<Pass<V>>
-    requires turn { (seat.table_id ≡ words.now.table_id) × (words.now.table_id.words ≡ 2) }
-    requires first { (callers ≡ words.now.key.callers) × (seat.me ≡ (beginning callers (V.base words.now.key.first.value), [])) }
+    requires turn { (seat.table_id ≡ shared.now.table_id) × (shared.now.table_id.words ≡ 2) }
+    requires first { (callers ≡ shared.now.key.callers) × (seat.me ≡ (beginning callers (V.base shared.now.key.first.value), [])) }
     requires room { (0 < callers) × (passes.items ≡ []) × (callers ≤ vec_capacity passes) }
     ensures numbers { map number_of result.items ≡ range_with_len 0 callers }
-    ensures new { All (λ p. (p.seat.table_id ≡ words.entry.now.table_id) × IsNew (V.base words.entry.now.key.first.value) p) result.items }
+    ensures new { All (λ p. (p.seat.table_id ≡ shared.entry.now.table_id) × IsNew (V.base shared.entry.now.key.first.value) p) result.items }
 {
     for number in 0..callers - 1 {
-        let other = words.split_seat::<Deal>(&mut seat);
+        let other = shared.split_seat::<Deal>(&mut seat);
         passes.push_reserved(pass_at(number, other));
     }
     passes.push_reserved(pass_at(callers - 1, seat));
@@ -96,9 +96,11 @@ impl<V: Keeps> Turn<V> {
     ) -> Result<(Turn<V>, Vec<Pass<V>>), (V, NoMemory)>
         requires callers { (1 ≤ callers) × (callers ≤ 65) }
         requires empty { V.items value ≡ [] }
-        ensures turn { IfOk result (λ made. (callers_of made.0 ≡ callers) × (origin_of V.base made.0 ≡ V.base value)) }
+        ensures callers { IfOk result (λ made. callers_of made.0 ≡ callers) }
+        ensures base { IfOk result (λ made. origin_of V.base made.0 ≡ V.base value) }
         ensures numbers { IfOk result (λ made. map number_of made.1.items ≡ range_with_len 0 callers) }
-        ensures new { IfOk result (λ made. All (λ p. IsPassOf made.0 p × IsNew (V.base value) p) made.1.items) }
+        ensures passes { IfOk result (λ made. All (IsPassOf made.0) made.1.items) }
+        ensures new { IfOk result (λ made. All (IsNew (V.base value)) made.1.items) }
         ensures err { IfErr result (λ back. back.0 ≡ value) }
     {
         let Ok(passes) = Vec::with_capacity(alloc, callers as usize) else {

@@ -13,7 +13,7 @@ use Rattle.lg_turn.proofs.turn.close.collect.Goals as goal
 
 pub loop-other-init : goal.loop-other-init
 loop-other-init g c =
-    let Here : Pass g.row.V.Denot g.row.V-Item.Denot g.row.V-Base.Denot g.V.Keeps → Type 0 = λ p. (p.seat.table_id ≡ c.args.words.now.table_id) × IsAway p in
+    let Here : Pass g.row.V.Denot g.row.V-Item.Denot g.row.V-Base.Denot g.V.Keeps → Type 0 = λ p. (p.seat.table_id ≡ c.args.shared.now.table_id) × IsAway p in
     let pass = c.in-Some.field-0 in
     let is = c.in-Some.ensures.items in
     let both = All-pop Here c.args.passes.items c.pop.new.self.items (Some pass) is c.requires.passes in record {
@@ -25,9 +25,9 @@ loop-other-init g c =
 
 pub join_seat-requires : goal.join_seat-requires
 join_seat-requires g c =
-    let Here : Pass g.row.V.Denot g.row.V-Item.Denot g.row.V-Base.Denot g.V.Keeps → Type 0 = λ p. (p.seat.table_id ≡ c.args.words.now.table_id) × IsAway p in
+    let Here : Pass g.row.V.Denot g.row.V-Item.Denot g.row.V-Base.Denot g.V.Keeps → Type 0 = λ p. (p.seat.table_id ≡ c.args.shared.now.table_id) × IsAway p in
     let k = g.V.Keeps in
-    let terms = c.args.words.now.key in
+    let terms = c.args.shared.now.key in
     let pass = c.in-Some-pop.field-0 in
     let before = c.loop-other.invariant in
     let both = All-pop Here c.loop-other.passes.items c.pop-in-loop-other.new.self.items (Some pass) c.in-Some-pop.ensures.items before.left in
@@ -41,7 +41,7 @@ join_seat-requires g c =
 
 pub loop-other-preserved : goal.loop-other-preserved
 loop-other-preserved g c =
-    let Here : Pass g.row.V.Denot g.row.V-Item.Denot g.row.V-Base.Denot g.V.Keeps → Type 0 = λ p. (p.seat.table_id ≡ c.args.words.now.table_id) × IsAway p in
+    let Here : Pass g.row.V.Denot g.row.V-Item.Denot g.row.V-Base.Denot g.V.Keeps → Type 0 = λ p. (p.seat.table_id ≡ c.args.shared.now.table_id) × IsAway p in
     let pass = c.in-Some-pop.field-0 in
     let before = c.loop-other.invariant in
     let is = c.in-Some-pop.ensures.items in

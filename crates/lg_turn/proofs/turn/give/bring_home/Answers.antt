@@ -13,8 +13,8 @@ pub fetch_add-requires : goal.fetch_add-requires
 fetch_add-requires g c =
     let k = g.V.Keeps in
     let seat = c.put_back.new.seat in
-    let terms = c.args.words.now.key in
-    let slots = c.args.words.now.table_id.slots in
+    let terms = c.args.shared.now.key in
+    let slots = c.args.shared.now.table_id.slots in
     let value = c.args.value in
     let may = c.requires.may_give in
     let is = c.put_back.ensures.filled ∙ ap (λ (v : View g.row.V-Item.Denot g.row.V-Base.Denot). (v, (0, Some value) ∷ [])) may.5 in (

@@ -18,7 +18,7 @@ use Rattle.lg_turn.proofs.turn.make.deal.Goals as goal
 pub split_seat-other-requires : goal.split_seat-other-requires
 split_seat-other-requires g c =
     let k = g.V.Keeps in
-    let terms = c.args.words.now.key in
+    let terms = c.args.shared.now.key in
     let over = k.base terms.first.value in
     let n = c.loop-number.number in
     let callers = c.args.callers in
@@ -34,7 +34,7 @@ split_seat-other-requires g c =
 
 pub pass_at-requires : goal.pass_at-requires
 pass_at-requires g c =
-    let over = g.V.Keeps.base c.args.words.now.key.first.value in
+    let over = g.V.Keeps.base c.args.shared.now.key.first.value in
     let n = c.loop-number.number in
     let callers = c.args.callers in
     let lt : n < callers = omega arith in
@@ -43,7 +43,7 @@ pass_at-requires g c =
 
 pub loop-number-preserved : goal.loop-number-preserved
 loop-number-preserved g c =
-    let over = g.V.Keeps.base c.args.words.now.key.first.value in
+    let over = g.V.Keeps.base c.args.shared.now.key.first.value in
     let n = c.loop-number.number in
     let callers = c.args.callers in
     let before = c.loop-number.invariant in
@@ -52,7 +52,7 @@ loop-number-preserved g c =
     let is = before.rest ∙ ap (λ (l : List (Account g.row.V-Item.Denot g.row.V-Base.Denot)). (view_of l Idle, [])) (next_blank g.row.V-Item.Denot over n callers lt) in
     let cut = c.split_seat-other.ensures in
     let mine = ap (λ (s : Seat (Option g.row.V.Denot) (View g.row.V-Item.Denot g.row.V-Base.Denot)). s.me) c.pass_at.ensures.same.0 ∙ cut.4 ∙ ap (λ (me : Me (Option g.row.V.Denot) (View g.row.V-Item.Denot g.row.V-Base.Denot)). (cut_off me.0, [])) is in
-    let New : Pass g.row.V.Denot g.row.V-Item.Denot g.row.V-Base.Denot g.V.Keeps → Type 0 = λ p. (p.seat.table_id ≡ c.args.words.now.table_id) × IsNew over p in record {
+    let New : Pass g.row.V.Denot g.row.V-Item.Denot g.row.V-Base.Denot g.V.Keeps → Type 0 = λ p. (p.seat.table_id ≡ c.args.shared.now.table_id) × IsNew over p in record {
       turn = cut.0 ∙ before.turn;
       rest = cut.2 ∙ ap (λ (me : Me (Option g.row.V.Denot) (View g.row.V-Item.Denot g.row.V-Base.Denot)). (left_over me.0, me.1)) is;
       numbers = pushed_number c.loop-number.passes.items c.push_reserved.new.self.items pass n c.push_reserved.ensures.items c.pass_at.ensures.same.1 before.numbers;
@@ -64,7 +64,7 @@ loop-number-preserved g c =
 
 pub pass_at-requires-2 : goal.pass_at-requires-2
 pass_at-requires-2 g c =
-    let over = g.V.Keeps.base c.args.words.now.key.first.value in
+    let over = g.V.Keeps.base c.args.shared.now.key.first.value in
     let callers = c.args.callers in
     let n : c.loop-number.number ≡ callers - 1 = omega arith in
     let last : callers - 1 + 1 ≡ callers = omega arith in

@@ -12,8 +12,8 @@ pub fetch_add-requires : goal.fetch_add-requires
 fetch_add-requires g c =
     let k = g.V.Keeps in
     let seat = c.args.seat.now in
-    let terms = c.args.words.now.key in
-    let slots = c.args.words.now.table_id.slots in (
+    let terms = c.args.shared.now.key in
+    let slots = c.args.shared.now.table_id.slots in (
       c.requires.turn.0,
       omega (arith, c.requires.turn.1),
       subst

@@ -11,8 +11,8 @@ pub load-requires : goal.load-requires
 load-requires g c =
     let k = g.V.Keeps in
     let seat = c.args.seat.now in
-    let terms = c.args.words.now.key in
-    let slots = c.args.words.now.table_id.slots in
+    let terms = c.args.shared.now.key in
+    let slots = c.args.shared.now.table_id.slots in
     let waits = c.requires.waits in (
       c.requires.turn.0,
       omega (arith, c.requires.turn.1),
