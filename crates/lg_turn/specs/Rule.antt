@@ -69,6 +69,7 @@ module _ {V I B : Type 0} (items : V → List I) (number : I → ℕ) (base : V 
       ((value : V) × (homes ≡ some (Some value) ∷ []) × (items value ≡ list) × (base value ≡ origin) × (out ≡ 0))
       ⊎ ((homes ≡ none ∷ []) × (out ≡ 1))
 
+  -- there is one list, of which all views tell the truth
   pub record IsKept (callers : ℕ) (origin : B) (s : State (Option V) (View I B)) : Type 0 where
     pub list : List I
     pub serving : ℕ
@@ -76,9 +77,13 @@ module _ {V I B : Type 0} (items : V → List I) (number : I → ℕ) (base : V 
     pub words : s.words ≡ ticket % 2 ^ 64 ∷ serving % 2 ^ 64 ∷ []
     pub slot : Slot origin list s.homes (sum_by values_of s.views)
     pub each_pass : (i : ℕ) (v : View I B) → get_elem? s.views i ≡ some v → Knows origin list serving v
+    -- there are never more passes than callers, and few of these
     pub few : callers ≤ 65
     pub passes : sum_by passes_of s.views ≤ callers
+    -- no two passes have one number, and each number is below that of the callers
     pub numbers : (n : ℕ) → (sum_by (with_number n) s.views ≤ 1) × (callers ≤ n → sum_by (with_number n) s.views ≡ 0)
     pub entered : All (λ e. number e < callers) list
+    -- as many tickets are out as were drawn and not yet served
     pub drawn : serving + sum_by tickets_of s.views ≡ ticket
+    -- they differ, and lie from the one that is served up to the next one
     pub apart : (t : ℕ) → (sum_by (with_ticket t) s.views ≤ 1) × (t < serving → sum_by (with_ticket t) s.views ≡ 0) × (ticket ≤ t → sum_by (with_ticket t) s.views ≡ 0)

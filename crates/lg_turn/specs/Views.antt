@@ -31,6 +31,7 @@ module _ {I B : Type 0} where
   others_of [] = []
   others_of (a ∷ rest) = rest
 
+  -- what the first account says
   abbrev pub number_in : List (Account I B) → ℕ
   number_in [] = 0
   number_in (a ∷ rest) = a.number

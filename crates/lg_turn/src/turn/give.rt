@@ -1,5 +1,5 @@
 //! How a pass gives the value back: first into the slot, and then the next ticket is served.
-ghost use Rattle.std.specs.Prelude.{◌≡◌, ℕ, ◌<◌, [], ◌∷◌, ◌++◌, length, map, drop, All, Some, None};
+ghost use Rattle.std.specs.Prelude.{◌≡◌, [], ◌∷◌, ◌++◌, length, map, drop, All, Some, None};
 ghost use Rattle.lg_turn.specs.declared.view.Stage.TheVariants.{Idle};
 ghost use Rattle.lg_turn.specs.Views.{of_pass, view_of};
 ghost use Rattle.lg_turn.specs.Rule.{Fits};

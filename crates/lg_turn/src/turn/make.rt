@@ -1,5 +1,5 @@
 //! How a turn is made, with its passes.
-ghost use Rattle.std.specs.Prelude.{◌≡◌, ℕ, ◌-◌, ◌<◌, ◌≤◌, List, [], ◌∷◌, length, map, All, Some, IfOk, IfErr, vec_capacity};
+ghost use Rattle.std.specs.Prelude.{◌≡◌, ◌-◌, ◌<◌, ◌≤◌, [], ◌∷◌, map, All, Some, IfOk, IfErr, vec_capacity};
 ghost use Rattle.std.specs.List.{range_with_len};
 ghost use Rattle.lg_turn.specs.declared.view.Stage.TheVariants.{Idle};
 ghost use Rattle.lg_turn.specs.Views.{blank, view_of};

@@ -1,5 +1,5 @@
 //! How a pass gets the value: it draws a ticket, and waits until that ticket is served.
-ghost use Rattle.std.specs.Prelude.{◌≡◌, ◌≢◌, ℕ, ◌<◌, [], ◌∷◌, length, Some, None};
+ghost use Rattle.std.specs.Prelude.{◌≡◌, ◌≢◌, ◌<◌, [], ◌∷◌, length, Some, None};
 ghost use Rattle.lg_turn.specs.declared.view.Stage.TheVariants.{Idle};
 ghost use Rattle.lg_turn.specs.Views.{BeginsWith, of_pass};
 ghost use Rattle.lg_turn.specs.Steps.{HasDrawn, HasTicket, HasTaken};
