@@ -1,6 +1,6 @@
 -- Accounts of passes that see more.
 use Rattle.std.proofs.Common.{◌≡◌, ℕ, ◌<◌, List, [], ◌∷◌, map, length, arith, ap, sym, refl}
-use Rattle.std.specs.Prelude.{◌==◌, if◌then◌else◌}
+use Rattle.std.specs.Prelude.{◌==◌, nat_lt, if◌then◌else◌}
 use Rattle.std.specs.List.{sum_by, All}
 use Rattle.std.proofs.lemmas.List.{append-nil}
 use Rattle.std.proofs.lemmas.List.Sums.{sum_by-cons}
@@ -19,6 +19,14 @@ module _ {I B : Type 0} where
       let one : Account I B → ℕ = λ a. if a.number == n then 1 else 0 in
       let here : one (f a) ≡ one a = ap (λ (m : ℕ). if m == n then 1 else 0) (same a) in
       omega (arith, sum_by-cons one (f a) (map f rest), sum_by-cons one a rest, numbers_map f same n rest)
+
+  pub lows_map : (f : Account I B → Account I B) → ((a : Account I B) → (f a).number ≡ a.number) → (n : ℕ) (accounts : List (Account I B))
+      → sum_by (λ (a : Account I B). if nat_lt a.number n then 1 else 0) (map f accounts) ≡ sum_by (λ (a : Account I B). if nat_lt a.number n then 1 else 0) accounts
+  lows_map f same n [] = refl
+  lows_map f same n (a ∷ rest) =
+      let one : Account I B → ℕ = λ a. if nat_lt a.number n then 1 else 0 in
+      let here : one (f a) ≡ one a = ap (λ (m : ℕ). if nat_lt m n then 1 else 0) (same a) in
+      omega (arith, sum_by-cons one (f a) (map f rest), sum_by-cons one a rest, lows_map f same n rest)
 
   pub seen_in-after_take : (list : List I) (accounts : List (Account I B)) → 0 < length accounts → seen_in (map (after_take list) accounts) ≡ list
   seen_in-after_take list [] h = absurd (omega arith)

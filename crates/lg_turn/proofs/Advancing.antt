@@ -6,42 +6,47 @@ use native.Mathlib.Decide.{ℕ_discrete, dec_lt}
 use lib.ListN.{get_elem?}
 use Rattle.std.specs.List.{sum_by, All}
 use Rattle.std.proofs.Math.Nat.{mod-add-mod}
-use Rattle.std.proofs.lemmas.List.Elements.{All-nil, All-cons, All-head, All-append, All-weaker}
+use Rattle.std.proofs.lemmas.List.Elements.{All-nil, All-cons, All-head, All-weaker}
 use Rattle.atomic_table.specs.Table.{State, step, gives, stepped, Allows}
 use Rattle.lg_turn.specs.declared.view.Account.{Account}
 use Rattle.lg_turn.specs.declared.view.View.{View}
 use Rattle.lg_turn.specs.declared.view.Stage.{Stage}
-use Rattle.lg_turn.specs.declared.view.Stage.TheVariants.{Idle, Waits, Holds}
+use Rattle.lg_turn.specs.declared.view.Stage.TheVariants.{Idle, Waits, Holds, Enrols, Leaves, Undoes, Alone}
 use Rattle.lg_turn.specs.Views.{view_of, account_of}
-use Rattle.lg_turn.specs.Rule.{with_number, values_of, tickets_of, with_ticket, value_count, Stands, Slot, Fits, Knows, IsKept}
+use Rattle.lg_turn.specs.Rule.{same_number, low_of, with_number, values_of, tickets_of, with_ticket, value_count, Stands, Slot, Fits, Knows, IsKept}
 use Rattle.lg_turn.specs.Steps.{Advances, after_give}
 use Rattle.lg_turn.proofs.Sums.{sum_by_set, each_set, part-le-sum_by, two_parts-le-sum_by}
-use Rattle.lg_turn.proofs.Counts.{one_if_same, none_if_other}
-use Rattle.lg_turn.proofs.Parts.{passes_stay, numbers_stay}
-use Rattle.lg_turn.proofs.Entries.{numbers_other, others_fit, giver_fits}
+use Rattle.lg_turn.proofs.Counts.{one_if_same, none_if_other, none_low}
+use Rattle.lg_turn.proofs.Parts.{sum_stays, roll_stays, roll_longer, one_not_low}
+use Rattle.lg_turn.proofs.Entries.{numbers_other, others_fit, giver_fits, of_pass-still_none}
 
 -- after an advance the words show the next ticket that is served
-words_advanced : (ws : List ℕ) (ticket serving : ℕ) → ws ≡ ticket % 2 ^ 64 ∷ serving % 2 ^ 64 ∷ [] → set ws 1 ((get_or ws 1 0 + 1) % 2 ^ 64) ≡ ticket % 2 ^ 64 ∷ (serving + 1) % 2 ^ 64 ∷ []
-words_advanced ws ticket serving e = ap (λ (l : List ℕ). set l 1 ((get_or l 1 0 + 1) % 2 ^ 64)) e ∙ ap (λ (n : ℕ). ticket % 2 ^ 64 ∷ n ∷ []) (mod-add-mod serving (2 ^ 64) 1)
+words_advanced : (ws : List ℕ) (ticket serving word : ℕ) → ws ≡ ticket % 2 ^ 64 ∷ serving % 2 ^ 64 ∷ word ∷ [] → set ws 1 ((get_or ws 1 0 + 1) % 2 ^ 64) ≡ ticket % 2 ^ 64 ∷ (serving + 1) % 2 ^ 64 ∷ word ∷ []
+words_advanced ws ticket serving word e = ap (λ (l : List ℕ). set l 1 ((get_or l 1 0 + 1) % 2 ^ 64)) e ∙ ap (λ (n : ℕ). ticket % 2 ^ 64 ∷ n ∷ word ∷ []) (mod-add-mod serving (2 ^ 64) 1)
 
 -- the value that a pass carries is one
 same_value : {V : Type 0} (x y : V) → ◌≡◌ {A = List (ℕ × Option V)} ((0, Some x) ∷ []) ((0, Some y) ∷ []) → x ≡ y
 same_value {V} x y e = let pair : ◌≡◌ {A = ℕ × Option V} (0, Some x) (0, Some y) = cc in let both : Some x ≡ Some y = ap (λ (z : ℕ × Option V). z.1) pair in cc
 
 module _ {V I B : Type 0} (items : V → List I) (number : I → ℕ) (base : V → B) where
-  -- who has no value does not mind which ticket is served, nor how long the list is
-  stands_on : (list list' : List I) (serving serving' : ℕ) (accounts : List (Account I B)) (stage : Stage) → value_count stage ≡ 0 → Stands items number base list serving accounts stage → Stands items number base list' serving' accounts stage
-  stands_on list list' serving serving' accounts Idle none_out h = tt
-  stands_on list list' serving serving' accounts (Waits t) none_out h = h
-  stands_on list list' serving serving' accounts (Holds t) none_out h = absurd (omega arith)
+  -- who has no value does not mind which ticket is served, nor new entries of another number
+  stands_on : (list new : List I) (n : ℕ) → All (λ e. number e ≡ n) new → (serving serving' : ℕ) (accounts : List (Account I B)) (stage : Stage) → value_count stage ≡ 0 → same_number n stage ≡ 0
+      → Stands items number base list serving accounts stage → Stands items number base (list ++ new) serving' accounts stage
+  stands_on list new n own_new serving serving' accounts Idle none_out other h = tt
+  stands_on list new n own_new serving serving' accounts (Waits t) none_out other h = h
+  stands_on list new n own_new serving serving' accounts (Holds t) none_out other h = absurd (omega arith)
+  stands_on list new n own_new serving serving' accounts (Enrols m out) none_out other h = (h.0, of_pass-still_none number n m list new (λ same. let one = one_if_same m n same in omega (arith, one, other)) own_new h.1)
+  stands_on list new n own_new serving serving' accounts Leaves none_out other h = h
+  stands_on list new n own_new serving serving' accounts Undoes none_out other h = h
+  stands_on list new n own_new serving serving' accounts Alone none_out other h = h
 
   module _ (callers : ℕ) (origin : B) where
     abbrev Rule : State (Option V) (View I B) → Type 0
     Rule = IsKept items number base callers origin
 
-    module _ (s : State (Option V) (View I B)) (k : Rule s) (id n : ℕ) (own new : List I) (own_new : All (λ e. number e ≡ n) new) (at : get_elem? s.views id ≡ some (view_of (account_of n origin k.list own ∷ []) (Holds k.serving))) where
+    module _ (s : State (Option V) (View I B)) (k : Rule s) (id n : ℕ) (own : List I) (asked : List ℕ) (new : List I) (own_new : All (λ e. number e ≡ n) new) (at : get_elem? s.views id ≡ some (view_of (account_of n origin k.list own asked ∷ []) (Holds k.serving))) where
       abbrev mine : Account I B
-      mine = account_of n origin k.list own
+      mine = account_of n origin k.list own asked
 
       abbrev before : View I B
       before = view_of (mine ∷ []) (Holds k.serving)
@@ -62,23 +67,23 @@ module _ {V I B : Type 0} (items : V → List I) (number : I → ℕ) (base : V 
           let most : sum_by values_of s.views ≤ 1 = ⊎_elim (λ home. let z = home.4 in omega arith) (λ out. let z = out.1 in omega arith) k.slot in omega arith
 
       -- nor its number
-      others_numbered : (j : ℕ) (u : View I B) → j ≢ id → get_elem? s.views j ≡ some u → All (λ (a : Account I B). a.number ≢ n) u.accounts
+      others_numbered : (j : ℕ) (u : View I B) → j ≢ id → get_elem? s.views j ≡ some u → All (λ (a : Account I B). a.number ≢ n) u.accounts × (same_number n u.stage ≡ 0)
       others_numbered j u other e =
           let two = two_parts-le-sum_by (with_number n) s.views j id u before other e at in
-          let most = (k.numbers n).0 in let one = my_number in
-          numbers_other n u.accounts (omega arith)
+          let most = (k.roll.numbers n).0 in let one = my_number in
+          (numbers_other n u.accounts (omega arith), omega arith)
 
       others_know : (j : ℕ) (u : View I B) → j ≢ id → get_elem? s.views j ≡ some u → Knows items number base origin (k.list ++ new) (k.serving + 1) u
       others_know j u other e =
           let known = k.each_pass j u e in record {
-            fits = others_fit items number base origin k.list new n own_new u.accounts (others_numbered j u other e) known.fits;
-            stands = stands_on k.list (k.list ++ new) k.serving (k.serving + 1) u.accounts u.stage (others_hold_none j u other e) known.stands;
+            fits = others_fit items number base origin k.list new n own_new u.accounts (others_numbered j u other e).0 known.fits;
+            stands = stands_on k.list new n own_new k.serving (k.serving + 1) u.accounts u.stage (others_hold_none j u other e) (others_numbered j u other e).1 known.stands;
           }
 
       i_know : Knows items number base origin (k.list ++ new) (k.serving + 1) after
       i_know =
           let fit = All-head (Fits items number base origin k.list) mine [] (k.each_pass id before at).fits in record {
-            fits = All-cons (Fits items number base origin (k.list ++ new)) _ [] (giver_fits items number base origin k.list new n own_new own fit.own_is) (All-nil (Fits items number base origin (k.list ++ new)));
+            fits = All-cons (Fits items number base origin (k.list ++ new)) _ [] (giver_fits items number base origin k.list new n own_new own asked fit.own_is) (All-nil (Fits items number base origin (k.list ++ new)));
             stands = tt;
           }
 
@@ -88,11 +93,23 @@ module _ {V I B : Type 0} (items : V → List I) (number : I → ℕ) (base : V 
           let moved : sum_by values_of (set s.views id after) + 1 ≡ sum_by values_of s.views + 0 = sum_by_set values_of s.views id before after at in
           ⊎_elim (λ home. let z = home.4 in absurd (omega arith)) (λ out. let z = out.1 in inl (value, ap (λ (hs : List (Maybe (Option V))). set hs 0 (some (Some value))) out.0, is, over, omega arith)) k.slot
 
-      entered_longer : All (λ e. number e < callers) (k.list ++ new)
-      entered_longer =
+      new_drawn : All (λ e. number e < k.made) new
+      new_drawn =
           let one = my_number in let part = part-le-sum_by (with_number n) s.views id before at in
-          let small : n < callers = dite (dec_lt n callers) (λ h. h) (λ no. let z = (k.numbers n).1 (omega arith) in absurd (omega arith)) in
-          All-append (λ e. number e < callers) k.list new k.entered (All-weaker (λ e. number e ≡ n) (λ e. number e < callers) (λ e h. omega arith) new own_new)
+          let small : n < k.made = dite (dec_lt n k.made) (λ h. h) (λ no. let z = (k.roll.numbers n).1 (omega arith) in absurd (omega arith)) in
+          All-weaker (λ e. number e ≡ n) (λ e. number e < k.made) (λ e h. omega arith) new own_new
+
+      same_low : low_of callers after ≡ low_of callers before
+      same_low = refl
+
+      new_low : callers ≤ sum_by (low_of callers) (set s.views id after) → All (λ e. number e < callers) new
+      new_low full =
+          let stays = sum_stays s.views id before after at (low_of callers) same_low in
+          let small : n < callers = dite (dec_lt n callers) (λ h. h) (λ no.
+          let high : low_of callers before ≡ 0 = omega (arith, none_low n callers (omega arith)) in
+          let fewer = one_not_low callers s.views id before at high (omega arith) in
+          let most = k.roll.passes in absurd (omega (arith, stays, full, fewer, most))) in
+          All-weaker (λ e. number e ≡ n) (λ e. number e < callers) (λ e h. omega arith) new own_new
 
       apart_advanced : (t : ℕ) → (sum_by (with_ticket t) (set s.views id after) ≤ 1) × (t < k.serving + 1 → sum_by (with_ticket t) (set s.views id after) ≡ 0) × (k.ticket ≤ t → sum_by (with_ticket t) (set s.views id after) ≡ 0)
       apart_advanced t =
@@ -107,35 +124,38 @@ module _ {V I B : Type 0} (items : V → List I) (number : I → ℕ) (base : V 
         list = k.list ++ new;
         serving = k.serving + 1;
         ticket = k.ticket;
-        words = words_advanced s.words k.ticket k.serving k.words;
+        made = k.made;
+        word = k.word;
+        words = words_advanced s.words k.ticket k.serving k.word k.words;
         slot = comes_home value is over;
         each_pass = each_set (λ j u. Knows items number base origin (k.list ++ new) (k.serving + 1) u) s.views id after i_know others_know;
         few = k.few;
-        passes = passes_stay s.views id before after at callers refl k.passes;
-        numbers = numbers_stay s.views id before after at callers (λ m. refl) k.numbers;
-        entered = entered_longer;
+        roll = roll_longer items number base callers k.list k.made k.word (set s.views id after) new
+            (roll_stays items number base callers k.list k.made k.word s.views id before after at refl (λ m. refl) refl refl refl k.roll)
+            new_drawn
+            new_low;
         drawn = (let moved : sum_by tickets_of (set s.views id after) + 1 ≡ sum_by tickets_of s.views + 0 = sum_by_set tickets_of s.views id before after at in let d = k.drawn in omega arith);
         apart = apart_advanced;
       }
 
-    pub advances : (slots id t n : ℕ) (over : B) (seen own new : List I) (value : V) → base value ≡ over → items value ≡ seen ++ new → All (λ e. number e ≡ n) new
-        → Allows Rule slots id (view_of (account_of n over seen own ∷ []) (Holds t), (0, Some value) ∷ []) 1 (λ m. (m + 1) % 2 ^ 64) (Advances items number base (step slots 1 1 0 none) (view_of (account_of n over seen own ∷ []) (Holds t), (0, Some value) ∷ []))
-    advances slots id t n over seen own new value based is own_new s k sized at small =
-        let known = k.each_pass id (view_of (account_of n over seen own ∷ []) (Holds t)) at in
-        let over_is : over ≡ origin = (All-head (Fits items number base origin k.list) (account_of n over seen own) [] known.fits).base_is in
+    pub advances : (slots id t n : ℕ) (over : B) (seen own : List I) (asked : List ℕ) (new : List I) (value : V) → base value ≡ over → items value ≡ seen ++ new → All (λ e. number e ≡ n) new
+        → Allows Rule slots id (view_of (account_of n over seen own asked ∷ []) (Holds t), (0, Some value) ∷ []) 1 (λ m. (m + 1) % 2 ^ 64) (Advances items number base (step slots 1 1 0 none) (view_of (account_of n over seen own asked ∷ []) (Holds t), (0, Some value) ∷ []))
+    advances slots id t n over seen own asked new value based is own_new s k sized at small =
+        let known = k.each_pass id (view_of (account_of n over seen own asked ∷ []) (Holds t)) at in
+        let over_is : over ≡ origin = (All-head (Fits items number base origin k.list) (account_of n over seen own asked) [] known.fits).base_is in
         let t_is : t ≡ k.serving = known.stands.1 in
         let seen_is : seen ≡ k.list = known.stands.2 in
-        let at' : get_elem? s.views id ≡ some (view_of (account_of n origin k.list own ∷ []) (Holds k.serving)) = at ∙ (λ i. some (view_of (account_of n (over_is i) (seen_is i) own ∷ []) (Holds (t_is i)))) in
+        let at' : get_elem? s.views id ≡ some (view_of (account_of n origin k.list own asked ∷ []) (Holds k.serving)) = at ∙ (λ i. some (view_of (account_of n (over_is i) (seen_is i) own asked ∷ []) (Holds (t_is i)))) in
         let longer : items value ≡ k.list ++ new = is ∙ ap (λ (l : List I). l ++ new) seen_is in (
-          after s k id n own new own_new at',
+          after s k id n own asked new own_new at',
           gives,
           tt,
-          advanced s k id n own new own_new at' value longer (based ∙ over_is),
+          advanced s k id n own asked new own_new at' value longer (based ∙ over_is),
           λ value' held.
               let same = same_value value value' held in
               let back : k.list ++ new ≡ items value' = sym longer ∙ ap items same in
               let over' : origin ≡ base value' = sym (based ∙ over_is) ∙ ap base same in (
-                (λ i. (view_of (after_give (back i) (account_of n (sym over_is i) (sym seen_is i) own) ∷ []) Idle, [])),
-                subst (λ (z : B × List I). All (Fits items number base z.0 z.1) (after_give (k.list ++ new) (account_of n origin k.list own) ∷ [])) (λ i. (over' i, back i)) (i_know s k id n own new own_new at').fits,
+                (λ i. (view_of (after_give (back i) (account_of n (sym over_is i) (sym seen_is i) own asked) ∷ []) Idle, [])),
+                subst (λ (z : B × List I). All (Fits items number base z.0 z.1) (after_give (k.list ++ new) (account_of n origin k.list own asked) ∷ [])) (λ i. (over' i, back i)) (i_know s k id n own asked new own_new at').fits,
               ),
         )

@@ -1,8 +1,8 @@
 -- Passes that are cut off a seat, or put together in one, keep the rule.
-use Rattle.std.proofs.Common.{◌≡◌, ◌≢◌, ℕ, ◌+◌, List, [], ◌∷◌, ◌++◌, length-append, set, arith, ap, sym, refl, ◌∙◌, subst, ⊎_elim, Option}
+use Rattle.std.proofs.Common.{◌≡◌, ◌≢◌, ℕ, ◌+◌, ◌≤◌, List, [], ◌∷◌, ◌++◌, length-append, set, arith, ap, sym, refl, ◌∙◌, subst, ⊎_elim, Option}
 use mathlib.Core.Option.{some}
 use lib.ListN.{get_elem?}
-use Rattle.std.specs.Prelude.{◌==◌, if◌then◌else◌}
+use Rattle.std.specs.Prelude.{◌==◌, nat_lt, if◌then◌else◌}
 use Rattle.std.specs.List.{sum_by}
 use Rattle.std.proofs.lemmas.List.Sums.{sum_by-cons, sum_by-append, sum_by_push}
 use Rattle.std.proofs.lemmas.List.Elements.{All-nil, All-cons, All-head, All-tail, All-append}
@@ -12,30 +12,32 @@ use Rattle.lg_turn.specs.declared.view.Account.{Account}
 use Rattle.lg_turn.specs.declared.view.View.{View}
 use Rattle.lg_turn.specs.declared.view.Stage.TheVariants.{Idle}
 use Rattle.lg_turn.specs.Views.{view_of}
-use Rattle.lg_turn.specs.Rule.{passes_of, with_number, values_of, tickets_of, with_ticket, Slot, Fits, Knows, IsKept}
+use Rattle.lg_turn.specs.Rule.{passes_of, with_number, out_of, undone_of, low_of, values_of, tickets_of, with_ticket, Slot, Fits, Knows, IsKept}
 use Rattle.lg_turn.specs.Steps.{cut_off, left_over, put_together, spent}
 use Rattle.lg_turn.proofs.Sums.{sum_by_set, each_set}
+use Rattle.lg_turn.proofs.Parts.{roll_on}
 
 module _ {V I B : Type 0} (items : V → List I) (number : I → ℕ) (base : V → B) (callers : ℕ) (origin : B) where
   abbrev Rule : State (Option V) (View I B) → Type 0
   Rule = IsKept items number base callers origin
 
-  -- the rule holds of other views, where each knows what is true and each sum is as it was
+  -- the rule holds of other views, where each knows what is true, as much is out, and no more passes are there
   pub with_views : (s : State (Option V) (View I B)) (k : Rule s) (views : List (View I B)) → ((i : ℕ) (v : View I B) → get_elem? views i ≡ some v → Knows items number base origin k.list k.serving v)
-      → sum_by passes_of views ≡ sum_by passes_of s.views → ((n : ℕ) → sum_by (with_number n) views ≡ sum_by (with_number n) s.views)
+      → sum_by (passes_of callers) views ≤ sum_by (passes_of callers) s.views → ((n : ℕ) → sum_by (with_number n) views ≤ sum_by (with_number n) s.views)
+      → sum_by out_of views ≡ sum_by out_of s.views → sum_by undone_of views ≡ sum_by undone_of s.views → sum_by (low_of callers) views ≤ sum_by (low_of callers) s.views
       → sum_by values_of views ≡ sum_by values_of s.views → sum_by tickets_of views ≡ sum_by tickets_of s.views → ((t : ℕ) → sum_by (with_ticket t) views ≡ sum_by (with_ticket t) s.views)
       → Rule record { words = s.words; homes = s.homes; views = views }
-  with_views s k views known passes_same numbers_same values_same tickets_same apart_same = record {
+  with_views s k views known passes_less numbers_less out_same undone_same low_less values_same tickets_same apart_same = record {
     list = k.list;
     serving = k.serving;
     ticket = k.ticket;
+    made = k.made;
+    word = k.word;
     words = k.words;
     slot = subst (Slot items number base origin k.list s.homes) (sym values_same) k.slot;
     each_pass = known;
     few = k.few;
-    passes = omega (arith, passes_same, k.passes);
-    numbers = λ n. let e = numbers_same n in let once = k.numbers n in (omega (arith, e, once.0), λ h. e ∙ once.1 h);
-    entered = k.entered;
+    roll = roll_on items number base callers k.list k.made k.word s.views views k.roll passes_less numbers_less out_same undone_same low_less;
     drawn = ap (λ (n : ℕ). k.serving + n) tickets_same ∙ k.drawn;
     apart = λ t. let e = apart_same t in let once = k.apart t in (omega (arith, e, once.0), (λ h. e ∙ once.1 h), λ h. e ∙ once.2 h);
   }
@@ -54,8 +56,11 @@ module _ {V I B : Type 0} (items : V → List I) (number : I → ℕ) (base : V 
       (λ there. each_set (λ j x. P x) s.views id l record { fits = All-tail F a rest fits; stands = tt } (λ j x _ f. k.each_pass j x f) i u there)
       (λ is. subst P is record { fits = All-cons F a [] (All-head F a rest fits) (All-nil F); stands = tt })
       (at_snoc (set s.views id l) r u i e))
-      (same passes_of (omega arith))
-      (λ n. let one : Account I B → ℕ = λ b. if b.number == n then 1 else 0 in same (with_number n) (omega (arith, sum_by-cons one a rest, sum_by-cons one a [])))
+      (omega (arith, same (passes_of callers) (omega arith)))
+      (λ n. let one : Account I B → ℕ = λ b. if b.number == n then 1 else 0 in omega (arith, same (with_number n) (omega (arith, sum_by-cons one a rest, sum_by-cons one a []))))
+      (same out_of (omega arith))
+      (same undone_of refl)
+      (let one : Account I B → ℕ = λ b. if nat_lt b.number callers then 1 else 0 in omega (arith, same (low_of callers) (omega (arith, sum_by-cons one a rest, sum_by-cons one a []))))
       (same values_of refl)
       (same tickets_of refl)
       (λ t. same (with_ticket t) refl)
@@ -73,8 +78,11 @@ module _ {V I B : Type 0} (items : V → List I) (number : I → ℕ) (base : V 
       with_views s k (set (set s.views id b) other spent)
       (each_set (λ j x. P x) (set s.views id b) other spent record { fits = All-nil F; stands = tt }
       (λ j x _ f. each_set (λ j x. P x) s.views id b record { fits = both; stands = tt } (λ j x _ f. k.each_pass j x f) j x f))
-      (same passes_of (omega (arith, length-append others accounts)))
-      (λ n. let one : Account I B → ℕ = λ a. if a.number == n then 1 else 0 in same (with_number n) (omega (arith, sum_by-append one others accounts)))
+      (omega (arith, same (passes_of callers) (omega (arith, length-append others accounts))))
+      (λ n. let one : Account I B → ℕ = λ a. if a.number == n then 1 else 0 in omega (arith, same (with_number n) (omega (arith, sum_by-append one others accounts))))
+      (same out_of (omega (arith, length-append others accounts)))
+      (same undone_of refl)
+      (let one : Account I B → ℕ = λ a. if nat_lt a.number callers then 1 else 0 in omega (arith, same (low_of callers) (omega (arith, sum_by-append one others accounts))))
       (same values_of refl)
       (same tickets_of refl)
       (λ t. same (with_ticket t) refl)

@@ -16,12 +16,12 @@ use Rattle.lg_turn.specs.Rule.{values_of, tickets_of, with_ticket, Knows, IsKept
 use Rattle.lg_turn.specs.Steps.{Draws}
 use Rattle.lg_turn.proofs.Sums.{sum_by_set, each_set}
 use Rattle.lg_turn.proofs.Counts.{one_if_same, none_if_other}
-use Rattle.lg_turn.proofs.Parts.{sum_stays, passes_stay, numbers_stay}
+use Rattle.lg_turn.proofs.Parts.{sum_stays, roll_stays}
 
 module _ {V I B : Type 0} (items : V → List I) (number : I → ℕ) (base : V → B) (callers : ℕ) (origin : B) where
   -- after a draw the words show the next ticket
-  words_drawn : (ws : List ℕ) (ticket serving : ℕ) → ws ≡ ticket % 2 ^ 64 ∷ serving % 2 ^ 64 ∷ [] → set ws 0 ((get_or ws 0 0 + 1) % 2 ^ 64) ≡ (ticket + 1) % 2 ^ 64 ∷ serving % 2 ^ 64 ∷ []
-  words_drawn ws ticket serving e = ap (λ (l : List ℕ). set l 0 ((get_or l 0 0 + 1) % 2 ^ 64)) e ∙ ap (λ (n : ℕ). n ∷ serving % 2 ^ 64 ∷ []) (mod-add-mod ticket (2 ^ 64) 1)
+  words_drawn : (ws : List ℕ) (ticket serving word : ℕ) → ws ≡ ticket % 2 ^ 64 ∷ serving % 2 ^ 64 ∷ word ∷ [] → set ws 0 ((get_or ws 0 0 + 1) % 2 ^ 64) ≡ (ticket + 1) % 2 ^ 64 ∷ serving % 2 ^ 64 ∷ word ∷ []
+  words_drawn ws ticket serving word e = ap (λ (l : List ℕ). set l 0 ((get_or l 0 0 + 1) % 2 ^ 64)) e ∙ ap (λ (n : ℕ). n ∷ serving % 2 ^ 64 ∷ word ∷ []) (mod-add-mod ticket (2 ^ 64) 1)
 
   -- the new ticket is the one that nobody had
   apart_drawn : (views : List (View I B)) (id serving ticket t : ℕ) (accounts : List (Account I B)) → get_elem? views id ≡ some (view_of accounts Idle) → serving ≤ ticket
@@ -47,13 +47,13 @@ module _ {V I B : Type 0} (items : V → List I) (number : I → ℕ) (base : V 
           list = k.list;
           serving = k.serving;
           ticket = k.ticket + 1;
-          words = words_drawn s.words k.ticket k.serving k.words;
+          made = k.made;
+          word = k.word;
+          words = words_drawn s.words k.ticket k.serving k.word k.words;
           slot = rw (sum_stays s.views id v w at values_of refl) k.slot;
           each_pass = each_set (λ j u. Knows items number base origin k.list k.serving u) s.views id w record { fits = (k.each_pass id v at).fits; stands = some_pass } (λ j u _ e. k.each_pass j u e);
           few = k.few;
-          passes = passes_stay s.views id v w at callers refl k.passes;
-          numbers = numbers_stay s.views id v w at callers (λ n. refl) k.numbers;
-          entered = k.entered;
+          roll = roll_stays items number base callers k.list k.made k.word s.views id v w at refl (λ n. refl) refl refl refl k.roll;
           drawn = (let moved : sum_by tickets_of (set s.views id w) + 0 ≡ sum_by tickets_of s.views + 1 = sum_by_set tickets_of s.views id v w at in omega arith);
           apart = λ t. apart_drawn s.views id k.serving k.ticket t accounts at (omega arith) (k.apart t);
         },

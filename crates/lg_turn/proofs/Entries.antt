@@ -1,5 +1,5 @@
 -- Entries of one pass, behind a list that others know too.
-use Rattle.std.proofs.Common.{◌≡◌, ◌≢◌, ℕ, List, [], ◌∷◌, ◌++◌, get_or, arith, ap, sym, refl, ◌∙◌, append_assoc, eq-eqb, ne_eqb, Bool, cond}
+use Rattle.std.proofs.Common.{◌≡◌, ◌≢◌, ℕ, ◌<◌, List, [], ◌∷◌, ◌++◌, get_or, arith, ap, sym, refl, ◌∙◌, append_assoc, eq-eqb, ne_eqb, Bool, cond}
 use Rattle.std.specs.Prelude.{◌==◌, if◌then◌else◌}
 use Rattle.std.specs.List.{sum_by, All}
 use Rattle.std.proofs.Math.Seq.{drop-append_seam}
@@ -48,9 +48,23 @@ module _ {V I B : Type 0} (items : V → List I) (number : I → ℕ) (base : V 
       }
 
   -- the pass that gives it back knows it whole
-  pub giver_fits : (own : List I) → of_pass number n list ≡ own → Fits items number base origin (list ++ new) (after_give (list ++ new) (account_of n origin list own))
-  giver_fits own is = record {
+  pub giver_fits : (own : List I) (asked : List ℕ) → of_pass number n list ≡ own → Fits items number base origin (list ++ new) (after_give (list ++ new) (account_of n origin list own asked))
+  giver_fits own asked is = record {
     base_is = refl;
     begins = ([], sym (append-nil (list ++ new)));
     own_is = filter-append (λ e. number e == n) list new ∙ (λ i. is i ++ of_pass-own number n new own_new i) ∙ ap (λ (l : List I). own ++ l) (sym (drop-append_seam list new));
   }
+
+module _ {I : Type 0} (number : I → ℕ) where
+  -- a number that was not drawn has no entries
+  pub of_pass-undrawn : (n : ℕ) (list : List I) → All (λ e. number e < n) list → of_pass number n list ≡ []
+  of_pass-undrawn n [] h = refl
+  of_pass-undrawn n (e ∷ rest) h =
+      let P : I → Type 0 = λ x. number x < n in
+      let here : number e < n = All-head P e rest h in
+      ap (λ (b : Bool). cond b (e ∷ of_pass number n rest) (of_pass number n rest)) (ne_eqb (number e) n (λ same. omega arith)) ∙ of_pass-undrawn n rest (All-tail P e rest h)
+
+  -- entries of one number behind a list change nothing for another that has none
+  pub of_pass-still_none : (n m : ℕ) (list new : List I) → m ≢ n → All (λ e. number e ≡ n) new → of_pass number m list ≡ [] → of_pass number m (list ++ new) ≡ []
+  of_pass-still_none n m list new other own_new none_before =
+      filter-append (λ e. number e == m) list new ∙ (λ i. none_before i ++ of_pass-other number n m new other own_new i)

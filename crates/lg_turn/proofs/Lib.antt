@@ -13,3 +13,8 @@ pub mod One
 pub mod Handing
 pub mod Gathering
 pub mod Shares
+pub mod Rolls
+pub mod Enrolling
+pub mod Releasing
+pub mod Parting
+pub mod Lone

@@ -12,14 +12,14 @@ use Rattle.atomic_table.proofs.Lists.{one_turn, set_again}
 use Rattle.lg_turn.specs.declared.view.Account.{Account}
 use Rattle.lg_turn.specs.declared.view.View.{View}
 use Rattle.lg_turn.specs.declared.view.Stage.{Stage}
-use Rattle.lg_turn.specs.declared.view.Stage.TheVariants.{Idle, Waits, Holds}
+use Rattle.lg_turn.specs.declared.view.Stage.TheVariants.{Idle, Waits, Holds, Enrols, Leaves, Undoes, Alone}
 use Rattle.lg_turn.specs.Views.{view_of}
 use Rattle.lg_turn.specs.Rule.{passes_of, values_of, tickets_of, with_ticket, ticket_count, same_ticket, value_count, Stands, Fits, Knows, IsKept}
 use Rattle.lg_turn.specs.Steps.{Looks, after_take}
 use Rattle.lg_turn.proofs.Sums.{sum_by_set, each_set, part-le-sum_by, two_parts-le-sum_by, some_part, sum_by-le-sum_by}
 use Rattle.lg_turn.proofs.Counts.{one_if_same}
-use Rattle.lg_turn.proofs.Parts.{sum_stays, passes_stay, numbers_stay}
-use Rattle.lg_turn.proofs.Accounts.{numbers_map, seen_in-after_take, fits_after_take}
+use Rattle.lg_turn.proofs.Parts.{sum_stays, roll_stays}
+use Rattle.lg_turn.proofs.Accounts.{numbers_map, lows_map, seen_in-after_take, fits_after_take}
 
 module _ {V I B : Type 0} (items : V → List I) (number : I → ℕ) (base : V → B) where
   -- who has a ticket stands for a pass
@@ -27,12 +27,20 @@ module _ {V I B : Type 0} (items : V → List I) (number : I → ℕ) (base : V 
   ticket_count-le-length list serving accounts Idle h = omega arith
   ticket_count-le-length list serving accounts (Waits t) h = h
   ticket_count-le-length list serving accounts (Holds t) h = h.0
+  ticket_count-le-length list serving accounts (Enrols n out) h = omega arith
+  ticket_count-le-length list serving accounts Leaves h = omega arith
+  ticket_count-le-length list serving accounts Undoes h = omega arith
+  ticket_count-le-length list serving accounts Alone h = omega arith
 
   -- who has the value has the ticket that is served
   holder_serves : (list : List I) (serving : ℕ) (accounts : List (Account I B)) (stage : Stage) → Stands items number base list serving accounts stage → 0 < value_count stage → same_ticket serving stage ≡ 1
   holder_serves list serving accounts Idle h out = absurd (omega arith)
   holder_serves list serving accounts (Waits t) h out = absurd (omega arith)
   holder_serves list serving accounts (Holds t) h out = one_if_same serving t (sym h.1)
+  holder_serves list serving accounts (Enrols n o) h out = absurd (omega arith)
+  holder_serves list serving accounts Leaves h out = absurd (omega arith)
+  holder_serves list serving accounts Undoes h out = absurd (omega arith)
+  holder_serves list serving accounts Alone h out = absurd (omega arith)
 
   module _ (callers : ℕ) (origin : B) where
     abbrev Rule : State (Option V) (View I B) → Type 0
@@ -40,7 +48,7 @@ module _ {V I B : Type 0} (items : V → List I) (number : I → ℕ) (base : V 
 
     -- at most 65 tickets are out
     tickets_few : (s : State (Option V) (View I B)) (k : Rule s) → k.ticket ≤ k.serving + 65
-    tickets_few s k = omega (arith, sum_by-le-sum_by tickets_of passes_of s.views (λ i v e. ticket_count-le-length k.list k.serving v.accounts v.stage (k.each_pass i v e).stands), k.passes, k.few, k.drawn)
+    tickets_few s k = omega (arith, sum_by-le-sum_by tickets_of (passes_of callers) s.views (λ i v e. let some = ticket_count-le-length k.list k.serving v.accounts v.stage (k.each_pass i v e).stands in omega (arith, some)), k.roll.passes, k.few, k.drawn)
 
     -- the ticket of a pass that waits is served where the words agree
     is_served : (s : State (Option V) (View I B)) (k : Rule s) (id t : ℕ) (accounts : List (Account I B)) → get_elem? s.views id ≡ some (view_of accounts (Waits t)) → t % 2 ^ 64 ≡ k.serving % 2 ^ 64 → t ≡ k.serving
@@ -81,15 +89,21 @@ module _ {V I B : Type 0} (items : V → List I) (number : I → ℕ) (base : V 
             list = k.list;
             serving = k.serving;
             ticket = k.ticket;
+            made = k.made;
+            word = k.word;
             words = set-get_or s.words 1 0 ∙ k.words;
             slot = inr (ap (λ (hs : List (Maybe (Option V))). set hs 0 none) home, (let moved : sum_by values_of (set s.views id after) + 0 ≡ sum_by values_of s.views + 1 = sum_by_set values_of s.views id before after at in omega arith));
             each_pass = each_set (λ j u. Knows items number base origin k.list k.serving u) s.views id after
                 record { fits = fits_after_take items number base origin k.list accounts known.fits; stands = (omega (arith, known.stands), refl, seen_in-after_take k.list accounts known.stands) }
                 (λ j u _ e. k.each_pass j u e);
             few = k.few;
-            passes = passes_stay s.views id before after at callers wide k.passes;
-            numbers = numbers_stay s.views id before after at callers (λ n. numbers_map (after_take k.list) (λ a. refl) n accounts) k.numbers;
-            entered = k.entered;
+            roll = roll_stays items number base callers k.list k.made k.word s.views id before after at
+                (ap (λ (n : ℕ). n + 0) wide)
+                (λ n. ap (λ (m : ℕ). m + 0) (numbers_map (after_take k.list) (λ a. refl) n accounts))
+                (ap (λ (n : ℕ). n + 0) wide)
+                refl
+                (ap (λ (m : ℕ). m + 0) (lows_map (after_take k.list) (λ a. refl) callers accounts))
+                k.roll;
             drawn = ap (λ (n : ℕ). k.serving + n) (sum_stays s.views id before after at tickets_of refl) ∙ k.drawn;
             apart = λ t. let e = sum_stays s.views id before after at (with_ticket t) refl in let a = k.apart t in (omega (arith, e, a.0), (λ h. e ∙ a.1 h), λ h. e ∙ a.2 h);
           }

@@ -1,5 +1,5 @@
 -- The rule holds of a new table: the value is at home, and the first seat answers for all passes.
-use Rattle.std.proofs.Common.{◌≡◌, ℕ, zero, suc, ◌+◌, ◌<◌, ◌≤◌, List, [], ◌∷◌, map, arith, sym, refl, subst, inl, Some}
+use Rattle.std.proofs.Common.{◌≡◌, ℕ, zero, suc, ◌+◌, ◌*◌, ◌<◌, ◌≤◌, List, [], ◌∷◌, map, arith, sym, refl, subst, inl, Some}
 use mathlib.Core.Option.{some, some-ne-none, some-injective}
 use mathlib.Core.Logic.{dite}
 use native.Mathlib.Decide.{ℕ_discrete}
@@ -32,26 +32,34 @@ module _ (I : Type 0) {B : Type 0} (over : B) where
       (λ same. let this : one n (blank over low) ≡ 1 = one_if_same low n same in let behind = rest.1 (omega arith) in (omega arith, (λ h. absurd (omega arith)), λ h. absurd (omega arith)))
       (λ other. let this : one n (blank over low) ≡ 0 = none_if_other low n other in (omega arith, (λ h. let behind = rest.1 (omega arith) in omega arith), λ h. let behind = rest.2 (omega arith) in omega arith))
 
-module _ {V I B : Type 0} (items : V → List I) (number : I → ℕ) (base : V → B) (callers : ℕ) (value : V) where
-  begins_known : (i : ℕ) (v : View I B) → get_elem? (beginning callers (base value) ∷ []) i ≡ some v → Knows items number base (base value) [] 0 v
-  begins_known zero v e = subst (Knows items number base (base value) [] 0) (some-injective (beginning callers (base value)) v e) record {
-    fits = All-map (Fits items number base (base value) []) (blank (base value)) (range_with_len 0 callers) (λ k d inside. record { base_is = refl; begins = ([], refl); own_is = refl });
+module _ {V I B : Type 0} (items : V → List I) (number : I → ℕ) (base : V → B) (callers passes : ℕ) (value : V) where
+  begins_known : (i : ℕ) (v : View I B) → get_elem? (beginning passes (base value) ∷ []) i ≡ some v → Knows items number base (base value) [] 0 v
+  begins_known zero v e = subst (Knows items number base (base value) [] 0) (some-injective (beginning passes (base value)) v e) record {
+    fits = All-map (Fits items number base (base value) []) (blank (base value)) (range_with_len 0 passes) (λ k d inside. record { base_is = refl; begins = ([], refl); own_is = refl });
     stands = tt;
   }
   begins_known (suc i) v e = absurd (some-ne-none v (sym e))
 
-  pub opens : callers ≤ 65 → items value ≡ [] → IsKept items number base callers (base value) (opening (0 ∷ 0 ∷ []) (Some value ∷ []) (beginning callers (base value)))
-  opens few empty = record {
+  pub opens : (word : ℕ) → word ≡ passes * 4294967297 → passes ≤ callers → callers ≤ 65 → items value ≡ [] → IsKept items number base callers (base value) (opening (0 ∷ 0 ∷ word ∷ []) (Some value ∷ []) (beginning passes (base value)))
+  opens word is fit few empty = let wide = length-map-range_with_len (blank {I = I} (base value)) 0 passes in record {
     list = [];
     serving = 0;
     ticket = 0;
+    made = passes;
+    word = word;
     words = refl;
     slot = inl (value, refl, empty, refl, refl);
     each_pass = begins_known;
     few = few;
-    passes = omega (arith, length-map-range_with_len (blank {I = I} (base value)) 0 callers);
-    numbers = λ n. let once = blank_numbers I (base value) n 0 callers in (omega (arith, once.0), λ h. let none_there = once.2 (omega arith) in omega arith);
-    entered = All-nil (λ e. number e < callers);
+    roll = record {
+      counted = omega (arith, wide);
+      small = omega arith;
+      spent = λ h. absurd (omega arith);
+      passes = omega (arith, wide);
+      numbers = λ n. let once = blank_numbers I (base value) n 0 passes in (omega (arith, once.0), λ h. let none_there = once.2 (omega arith) in omega arith);
+      entered = All-nil (λ e. number e < passes);
+      whole = λ h. All-nil (λ e. number e < callers);
+    };
     drawn = refl;
     apart = λ t. (omega arith, (λ h. refl), λ h. refl);
   }

@@ -1,20 +1,100 @@
--- The parts of the rule that a step keeps which changes one view, where the view answers for the same passes.
-use Rattle.std.proofs.Common.{◌≡◌, ℕ, ◌≤◌, List, set, arith, ◌∙◌}
+-- The parts of the rule that a step keeps which changes one view, or which leaves the counts as they are.
+use Rattle.std.proofs.Common.{◌≡◌, ℕ, ◌+◌, ◌*◌, ◌<◌, ◌≤◌, List, [], ◌∷◌, ◌++◌, length, set, arith, sym, ◌∙◌, Bool, true, false, cond}
 use mathlib.Core.Option.{some}
 use lib.ListN.{get_elem?}
-use Rattle.std.specs.List.{sum_by}
+use Rattle.std.specs.Prelude.{nat_lt, if◌then◌else◌}
+use Rattle.std.specs.List.{sum_by, All}
+use Rattle.std.proofs.lemmas.List.Sums.{sum_by-cons}
+use Rattle.std.proofs.lemmas.List.Elements.{All-append}
+use Rattle.lg_turn.specs.declared.view.Account.{Account}
 use Rattle.lg_turn.specs.declared.view.View.{View}
-use Rattle.lg_turn.specs.Rule.{passes_of, with_number}
-use Rattle.lg_turn.proofs.Sums.{sum_by_set}
+use Rattle.lg_turn.specs.declared.view.Stage.{Stage}
+use Rattle.lg_turn.specs.declared.view.Stage.TheVariants.{Idle, Waits, Holds, Enrols, Leaves, Undoes, Alone}
+use Rattle.lg_turn.specs.Views.{view_of}
+use Rattle.lg_turn.specs.Rule.{passes_of, with_number, out_of, undone_of, low_of, low_count, place_count, Roll}
+use Rattle.lg_turn.specs.Steps.{spent}
+use Rattle.lg_turn.proofs.Sums.{sum_by_set, sum_by-le-sum_by}
 
 module _ {I B : Type 0} (views : List (View I B)) (id : ℕ) (v w : View I B) (at : get_elem? views id ≡ some v) where
   -- a sum stays where the part does
   pub sum_stays : (f : View I B → ℕ) → f w ≡ f v → sum_by f (set views id w) ≡ sum_by f views
   sum_stays f same = omega (arith, sum_by_set f views id v w at)
 
-  pub passes_stay : (callers : ℕ) → passes_of w ≡ passes_of v → sum_by passes_of views ≤ callers → sum_by passes_of (set views id w) ≤ callers
-  passes_stay callers same few = omega (arith, sum_stays passes_of same)
+module _ {V I B : Type 0} (items : V → List I) (number : I → ℕ) (base : V → B) (callers : ℕ) (list : List I) (made word : ℕ) where
+  -- the roll is right of other views too, where as many are out, and no more passes are there
+  pub roll_on : (views views' : List (View I B)) → Roll items number base callers list made word views
+      → sum_by (passes_of callers) views' ≤ sum_by (passes_of callers) views → ((n : ℕ) → sum_by (with_number n) views' ≤ sum_by (with_number n) views)
+      → sum_by out_of views' ≡ sum_by out_of views → sum_by undone_of views' ≡ sum_by undone_of views
+      → sum_by (low_of callers) views' ≤ sum_by (low_of callers) views → Roll items number base callers list made word views'
+  roll_on views views' r passes_less numbers_less out_same undone_same low_less = record {
+    counted = r.counted ∙ (λ i. (made + sym undone_same i) * 4294967296 + sym out_same i);
+    small = r.small;
+    spent = λ h. r.spent (omega (arith, undone_same));
+    passes = omega (arith, passes_less, r.passes);
+    numbers = λ n. let less = numbers_less n in let once = r.numbers n in (omega (arith, less, once.0), λ h. let z = once.1 h in omega (arith, less, z));
+    entered = r.entered;
+    whole = λ h. r.whole (omega (arith, low_less));
+  }
 
-  pub numbers_stay : (callers : ℕ) → ((n : ℕ) → with_number n w ≡ with_number n v) → ((n : ℕ) → (sum_by (with_number n) views ≤ 1) × (callers ≤ n → sum_by (with_number n) views ≡ 0))
-      → (n : ℕ) → (sum_by (with_number n) (set views id w) ≤ 1) × (callers ≤ n → sum_by (with_number n) (set views id w) ≡ 0)
-  numbers_stay callers same once n = let e = sum_stays (with_number n) (same n) in let o = once n in (omega (arith, e, o.0), λ h. e ∙ o.1 h)
+  -- and where one view changes that answers for the same passes
+  pub roll_stays : (views : List (View I B)) (id : ℕ) (v w : View I B) → get_elem? views id ≡ some v → passes_of callers w ≡ passes_of callers v → ((n : ℕ) → with_number n w ≡ with_number n v)
+      → out_of w ≡ out_of v → undone_of w ≡ undone_of v → low_of callers w ≡ low_of callers v → Roll items number base callers list made word views → Roll items number base callers list made word (set views id w)
+  roll_stays views id v w at p n o u l r =
+      roll_on views (set views id w) r
+      (omega (arith, sum_stays views id v w at (passes_of callers) p))
+      (λ m. omega (arith, sum_stays views id v w at (with_number m) (n m)))
+      (sum_stays views id v w at out_of o)
+      (sum_stays views id v w at undone_of u)
+      (omega (arith, sum_stays views id v w at (low_of callers) l))
+
+  -- a longer list, whose new entries have numbers that were drawn
+  pub roll_longer : (views : List (View I B)) (new : List I) → Roll items number base callers list made word views → All (λ e. number e < made) new
+      → (callers ≤ sum_by (low_of callers) views → All (λ e. number e < callers) new) → Roll items number base callers (list ++ new) made word views
+  roll_longer views new r drawn whole = record {
+    counted = r.counted;
+    small = r.small;
+    spent = r.spent;
+    passes = r.passes;
+    numbers = r.numbers;
+    entered = All-append (λ e. number e < made) list new r.entered drawn;
+    whole = λ h. All-append (λ e. number e < callers) list new (r.whole h) (whole h);
+  }
+
+pub bit-le-one : (b : Bool) → cond b 1 0 ≤ 1
+bit-le-one true = omega arith
+bit-le-one false = omega arith
+
+both-le-second : (b c : Bool) → cond b (cond c 1 0) 0 ≤ cond c 1 0
+both-le-second true c = omega arith
+both-le-second false true = omega arith
+both-le-second false false = omega arith
+
+low-le-place : (callers : ℕ) (stage : Stage) → low_count callers stage ≤ place_count callers stage
+low-le-place callers Idle = omega arith
+low-le-place callers (Waits t) = omega arith
+low-le-place callers (Holds t) = omega arith
+low-le-place callers (Enrols n out) = both-le-second (nat_lt n callers) (nat_lt out callers)
+low-le-place callers Leaves = omega arith
+low-le-place callers Undoes = omega arith
+low-le-place callers Alone = omega arith
+
+module _ {I B : Type 0} (callers : ℕ) where
+  abbrev low : Account I B → ℕ
+  low a = if nat_lt a.number callers then 1 else 0
+
+  low-le-length : (accounts : List (Account I B)) → sum_by low accounts ≤ length accounts
+  low-le-length [] = omega arith
+  low-le-length (a ∷ rest) = omega (arith, low-le-length rest, sum_by-cons low a rest, bit-le-one (nat_lt a.number callers))
+
+  pub low-le-passes : (v : View I B) → low_of callers v ≤ passes_of callers v
+  low-le-passes v = omega (arith, low-le-length v.accounts, low-le-place callers v.stage)
+
+  -- where a pass is there with another number, fewer have a number below callers than are there
+  pub one_not_low : (views : List (View I B)) (id : ℕ) (v : View I B) → get_elem? views id ≡ some v → low_of callers v ≡ 0 → passes_of callers v ≡ 1 → sum_by (low_of callers) views < sum_by (passes_of callers) views
+  one_not_low views id v at none_low one =
+      let l = sum_by_set (low_of callers) views id v spent at in
+      let p = sum_by_set (passes_of callers) views id v spent at in
+      let le = sum_by-le-sum_by (low_of callers) (passes_of callers) (set views id spent) (λ i w e. low-le-passes w) in
+      let ls : sum_by (low_of callers) (set views id spent) + low_of callers v ≡ sum_by (low_of callers) views + 0 = l in
+      let ps : sum_by (passes_of callers) (set views id spent) + passes_of callers v ≡ sum_by (passes_of callers) views + 0 = p in
+      omega (arith, ls, ps, le, none_low, one)

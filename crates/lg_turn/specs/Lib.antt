@@ -2,3 +2,5 @@ pub mod Views
 pub mod Rule
 pub mod Steps
 pub mod Passes
+pub mod Faults
+pub mod Closings

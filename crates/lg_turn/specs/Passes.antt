@@ -1,11 +1,22 @@
 -- What a contract says of a pass and of its turn. This project's own.
-use Rattle.std.specs.Prelude.{◌≡◌, ℕ, ◌≤◌, List, [], ◌++◌, length, All, Option, Some}
+use Rattle.std.specs.Prelude.{◌≡◌, ℕ, ◌≤◌, nat_le, if◌then◌else◌, None, List, [], ◌∷◌, ◌++◌, length, All, Option, Some}
 use Rattle.lg_turn.specs.declared.keeps.Keeps.{Ghosts}
 use Rattle.lg_turn.specs.declared.pass.Pass.{Pass}
 use Rattle.lg_turn.specs.declared.turn.Turn.{Turn}
 use Rattle.lg_turn.specs.declared.view.Account.{Account}
 use Rattle.lg_turn.specs.declared.view.Stage.TheVariants.{Idle, Holds}
-use Rattle.lg_turn.specs.Views.{base_in, seen_in, own_in}
+use Rattle.lg_turn.specs.declared.fault.TurnFault.{TurnFault}
+use Rattle.lg_turn.specs.declared.fault.TurnFault.TheVariants.{Many, Spent}
+use Rattle.lg_turn.specs.Views.{base_in, seen_in, own_in, asked_in, drawn_in, out_in}
+
+-- what a split answers that finds this word of the roll: first whether any number is left, and then whether any place is
+abbrev pub fault_at : ℕ → ℕ → Option TurnFault
+fault_at callers word = if nat_le 4294967168 (drawn_in word) then Some Spent else (if nat_le callers (out_in word) then Some Many else None)
+
+-- the word that was found last
+abbrev pub last_found : List ℕ → ℕ
+last_found [] = 0
+last_found (word ∷ earlier) = word
 
 module _ {V I B : Type 0} {G : Ghosts V I B} where
   -- what the pass knows, as a list of one
@@ -27,6 +38,13 @@ module _ {V I B : Type 0} {G : Ghosts V I B} where
   abbrev pub own_of : Pass V I B G → List I
   own_of pass = own_in pass.seat.me.0.accounts
 
+  -- the words that the pass found where it asked for the count of passes, the last one first
+  abbrev pub asked_by : Pass V I B G → List ℕ
+  asked_by pass = asked_in pass.seat.me.0.accounts
+
+  abbrev pub found_by : Pass V I B G → ℕ
+  found_by pass = last_found (asked_by pass)
+
   -- the pass is away from the turn
   abbrev pub IsAway : Pass V I B G → Type 0
   IsAway pass = pass.seat.me.0.stage ≡ Idle
@@ -41,6 +59,18 @@ module _ {V I B : Type 0} {G : Ghosts V I B} where
   -- the same pass of the same turn
   abbrev pub IsSamePass : Pass V I B G → Pass V I B G → Type 0
   IsSamePass old new = (new.seat.table_id ≡ old.seat.table_id) × (number_of new ≡ number_of old) × (base_of new ≡ base_of old)
+
+  -- the pass knows and has made what it did before
+  abbrev pub IsAsBefore : Pass V I B G → Pass V I B G → Type 0
+  IsAsBefore old new = IsSamePass old new × (seen_by new ≡ seen_by old) × (own_of new ≡ own_of old) × IsAway new
+
+  -- the pass asked once for the count of passes
+  abbrev pub HasAskedOnce : Pass V I B G → Pass V I B G → Type 0
+  HasAskedOnce old new = asked_by new ≡ found_by new ∷ asked_by old
+
+  -- a pass of this number that has seen what the old one has, and has made nothing
+  abbrev pub IsSplitOff : Pass V I B G → ℕ → Pass V I B G → Type 0
+  IsSplitOff old n pass = (number_of pass ≡ n) × (base_of pass ≡ base_of old) × (seen_by pass ≡ seen_by old) × (own_of pass ≡ []) × IsAway pass
 
   -- the pass has seen and made nothing
   abbrev pub IsNew : B → Pass V I B G → Type 0

@@ -1,13 +1,14 @@
 -- The rule of a turn: what is true of the table between any two steps. This project's own.
--- Word 0 is the next ticket and word 1 the ticket that is served, both modulo 2 ^ 64. The one slot has the value.
-use Rattle.std.specs.Prelude.{◌≡◌, ℕ, ◌+◌, ◌%◌, ◌^◌, ◌<◌, ◌≤◌, ◌==◌, if◌then◌else◌, ◌⊎◌, List, [], ◌∷◌, length, Option, Some, All, sum_by}
+-- Word 0 is the next ticket and word 1 the ticket that is served, both modulo 2 ^ 64. Word 2 is the roll: 2 ^ 32 times
+-- the count of the numbers that were drawn, and the count of the passes that are out. The one slot has the value.
+use Rattle.std.specs.Prelude.{◌≡◌, ℕ, ◌+◌, ◌-◌, ◌*◌, ◌%◌, ◌^◌, ◌<◌, ◌≤◌, ◌==◌, nat_lt, if◌then◌else◌, ◌⊎◌, List, [], ◌∷◌, length, Option, Some, All, sum_by}
 use mathlib.Core.Option.{Option as Maybe, some, none}
 use lib.ListN.{get_elem?}
 use Rattle.atomic_table.specs.Table.{State}
 use Rattle.lg_turn.specs.declared.view.Account.{Account}
 use Rattle.lg_turn.specs.declared.view.View.{View}
 use Rattle.lg_turn.specs.declared.view.Stage.{Stage}
-use Rattle.lg_turn.specs.declared.view.Stage.TheVariants.{Idle, Waits, Holds}
+use Rattle.lg_turn.specs.declared.view.Stage.TheVariants.{Idle, Waits, Holds, Enrols, Leaves, Undoes, Alone}
 use Rattle.lg_turn.specs.Views.{BeginsWith, of_pass, seen_in}
 
 -- 1 for a stage with a ticket out
@@ -15,27 +16,100 @@ abbrev pub ticket_count : Stage → ℕ
 ticket_count Idle = 0
 ticket_count (Waits t) = 1
 ticket_count (Holds t) = 1
+ticket_count (Enrols n out) = 0
+ticket_count Leaves = 0
+ticket_count Undoes = 0
+ticket_count Alone = 0
 
 -- 1 for a stage with this very ticket
 abbrev pub same_ticket : ℕ → Stage → ℕ
 same_ticket t Idle = 0
 same_ticket t (Waits u) = (if t == u then 1 else 0)
 same_ticket t (Holds u) = (if t == u then 1 else 0)
+same_ticket t (Enrols n out) = 0
+same_ticket t Leaves = 0
+same_ticket t Undoes = 0
+same_ticket t Alone = 0
 
 -- 1 for a stage with the value out
 abbrev pub value_count : Stage → ℕ
 value_count Idle = 0
 value_count (Waits t) = 0
 value_count (Holds t) = 1
+value_count (Enrols n out) = 0
+value_count Leaves = 0
+value_count Undoes = 0
+value_count Alone = 0
+
+-- 1 for a stage that counts as one pass more in the roll
+abbrev pub out_count : Stage → ℕ
+out_count Idle = 0
+out_count (Waits t) = 0
+out_count (Holds t) = 0
+out_count (Enrols n out) = 1
+out_count Leaves = 1
+out_count Undoes = 1
+out_count Alone = 0
+
+-- 1 for a stage that counts as one number more in the roll
+abbrev pub undone_count : Stage → ℕ
+undone_count Idle = 0
+undone_count (Waits t) = 0
+undone_count (Holds t) = 0
+undone_count (Enrols n out) = 0
+undone_count Leaves = 0
+undone_count Undoes = 1
+undone_count Alone = 0
+
+-- how many of the callers' places a stage takes up: one for a pass to come, where there was room, and all others for a pass that is alone
+abbrev pub place_count : ℕ → Stage → ℕ
+place_count callers Idle = 0
+place_count callers (Waits t) = 0
+place_count callers (Holds t) = 0
+place_count callers (Enrols n out) = (if nat_lt out callers then 1 else 0)
+place_count callers Leaves = 0
+place_count callers Undoes = 0
+place_count callers Alone = callers - 1
+
+-- 1 for a stage that has drawn this number
+abbrev pub same_number : ℕ → Stage → ℕ
+same_number n Idle = 0
+same_number n (Waits t) = 0
+same_number n (Holds t) = 0
+same_number n (Enrols m out) = (if m == n then 1 else 0)
+same_number n Leaves = 0
+same_number n Undoes = 0
+same_number n Alone = 0
+
+-- 1 for a stage with a place for a pass whose number is below callers
+abbrev pub low_count : ℕ → Stage → ℕ
+low_count callers Idle = 0
+low_count callers (Waits t) = 0
+low_count callers (Holds t) = 0
+low_count callers (Enrols n out) = (if nat_lt n callers then (if nat_lt out callers then 1 else 0) else 0)
+low_count callers Leaves = 0
+low_count callers Undoes = 0
+low_count callers Alone = 0
 
 module _ {I B : Type 0} where
-  -- how many passes a seat answers for
-  abbrev pub passes_of : View I B → ℕ
-  passes_of v = length v.accounts
+  -- how many passes a seat answers for, with those to come
+  abbrev pub passes_of : ℕ → View I B → ℕ
+  passes_of callers v = length v.accounts + place_count callers v.stage
 
   -- how many of them have this number
   abbrev pub with_number : ℕ → View I B → ℕ
-  with_number n v = sum_by (λ (a : Account I B). (if a.number == n then 1 else 0)) v.accounts
+  with_number n v = sum_by (λ (a : Account I B). (if a.number == n then 1 else 0)) v.accounts + same_number n v.stage
+
+  -- how many of them have a number below callers
+  abbrev pub low_of : ℕ → View I B → ℕ
+  low_of callers v = sum_by (λ (a : Account I B). (if nat_lt a.number callers then 1 else 0)) v.accounts + low_count callers v.stage
+
+  -- for how many passes a seat counts in the roll
+  abbrev pub out_of : View I B → ℕ
+  out_of v = length v.accounts + out_count v.stage
+
+  abbrev pub undone_of : View I B → ℕ
+  undone_of v = undone_count v.stage
 
   abbrev pub tickets_of : View I B → ℕ
   tickets_of v = ticket_count v.stage
@@ -58,6 +132,10 @@ module _ {V I B : Type 0} (items : V → List I) (number : I → ℕ) (base : V 
   Stands list serving accounts Idle = Unit {0}
   Stands list serving accounts (Waits t) = 0 < length accounts
   Stands list serving accounts (Holds t) = (0 < length accounts) × (t ≡ serving) × (seen_in accounts ≡ list)
+  Stands list serving accounts (Enrols n out) = (0 < length accounts) × (of_pass number n list ≡ [])
+  Stands list serving accounts Leaves = 0 < length accounts
+  Stands list serving accounts Undoes = 0 < length accounts
+  Stands list serving accounts Alone = 0 < length accounts
 
   pub record Knows (origin : B) (list : List I) (serving : ℕ) (v : View I B) : Type 0 where
     pub fits : All (Fits origin list) v.accounts
@@ -69,20 +147,35 @@ module _ {V I B : Type 0} (items : V → List I) (number : I → ℕ) (base : V 
       ((value : V) × (homes ≡ some (Some value) ∷ []) × (items value ≡ list) × (base value ≡ origin) × (out ≡ 0))
       ⊎ ((homes ≡ none ∷ []) × (out ≡ 1))
 
+  -- What the roll has counted, over the views of all seats.
+  pub record Roll (callers : ℕ) (list : List I) (made word : ℕ) (views : List (View I B)) : Type 0 where
+    -- the numbers that were drawn, with those to be undone, and the passes that are out, with those to come or to go
+    pub counted : word ≡ (made + sum_by undone_of views) * 4294967296 + sum_by out_of views
+    -- past so many numbers each one that is drawn is undone
+    pub small : made ≤ 4294967168
+    pub spent : 0 < sum_by undone_of views → made ≡ 4294967168
+    -- there are never more passes than callers
+    pub passes : sum_by (passes_of callers) views ≤ callers
+    -- no two passes have one number, and each number was drawn
+    pub numbers : (n : ℕ) → (sum_by (with_number n) views ≤ 1) × (made ≤ n → sum_by (with_number n) views ≡ 0)
+    -- each entry has a number that was drawn
+    pub entered : All (λ e. number e < made) list
+    -- while as many passes have numbers below callers as there are callers, no other pass has made an entry
+    pub whole : callers ≤ sum_by (low_of callers) views → All (λ e. number e < callers) list
+
   -- there is one list, of which all views tell the truth
   pub record IsKept (callers : ℕ) (origin : B) (s : State (Option V) (View I B)) : Type 0 where
     pub list : List I
     pub serving : ℕ
     pub ticket : ℕ
-    pub words : s.words ≡ ticket % 2 ^ 64 ∷ serving % 2 ^ 64 ∷ []
+    pub made : ℕ
+    pub word : ℕ
+    pub words : s.words ≡ ticket % 2 ^ 64 ∷ serving % 2 ^ 64 ∷ word ∷ []
     pub slot : Slot origin list s.homes (sum_by values_of s.views)
     pub each_pass : (i : ℕ) (v : View I B) → get_elem? s.views i ≡ some v → Knows origin list serving v
-    -- there are never more passes than callers, and few of these
+    -- there are few callers, and the third word counts their passes
     pub few : callers ≤ 65
-    pub passes : sum_by passes_of s.views ≤ callers
-    -- no two passes have one number, and each number is below that of the callers
-    pub numbers : (n : ℕ) → (sum_by (with_number n) s.views ≤ 1) × (callers ≤ n → sum_by (with_number n) s.views ≡ 0)
-    pub entered : All (λ e. number e < callers) list
+    pub roll : Roll callers list made word s.views
     -- as many tickets are out as were drawn and not yet served
     pub drawn : serving + sum_by tickets_of s.views ≡ ticket
     -- they differ, and lie from the one that is served up to the next one

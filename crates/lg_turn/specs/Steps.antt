@@ -1,11 +1,12 @@
 -- What each step on the table tells the pass that makes it, and how views are cut and put together. This project's own.
-use Rattle.std.specs.Prelude.{◌≡◌, ◌≢◌, ℕ, ◌%◌, ◌^◌, List, [], ◌∷◌, ◌++◌, Option, Some, drop, length, map, All}
+use Rattle.std.specs.Prelude.{◌≡◌, ◌≢◌, ℕ, ◌%◌, ◌^◌, ◌<◌, ◌≤◌, List, [], ◌∷◌, ◌++◌, Option, Some, drop, length, map, All}
 use Rattle.std.specs.List.{range_with_len}
 use Rattle.atomic_table.specs.Table.{Me, Step}
 use Rattle.lg_turn.specs.declared.view.Account.{Account}
 use Rattle.lg_turn.specs.declared.view.View.{View}
-use Rattle.lg_turn.specs.declared.view.Stage.TheVariants.{Idle, Waits, Holds}
-use Rattle.lg_turn.specs.Views.{account_of, blank, first_of, others_of, view_of}
+use Rattle.lg_turn.specs.declared.view.Stage.TheVariants.{Idle, Waits, Holds, Enrols, Leaves, Undoes, Alone}
+use Rattle.lg_turn.specs.declared.view.Stage.{Stage}
+use Rattle.lg_turn.specs.Views.{account_of, blank, first_of, others_of, number_in, view_of, drawn_in, out_in, longer}
 use Rattle.lg_turn.specs.Rule.{Fits}
 
 module _ {I B : Type 0} where
@@ -29,11 +30,43 @@ module _ {I B : Type 0} where
 
   -- the account after the whole list was seen
   abbrev pub after_take : List I → Account I B → Account I B
-  after_take list a = account_of a.number a.base list a.own
+  after_take list a = account_of a.number a.base list a.own a.asked
 
   -- the account after the list was given back, with what stands behind the entries that were seen
   abbrev pub after_give : List I → Account I B → Account I B
-  after_give list a = account_of a.number a.base list (a.own ++ drop (length a.seen) list)
+  after_give list a = account_of a.number a.base list (a.own ++ drop (length a.seen) list) a.asked
+
+  -- the account after a word of the roll was found
+  abbrev pub noted : ℕ → Account I B → Account I B
+  noted word a = account_of a.number a.base a.seen a.own (word ∷ a.asked)
+
+  -- the account of a new pass, which has the number that was drawn, and has seen what the first pass has
+  abbrev pub newcomer : List (Account I B) → Stage → List (Account I B)
+  newcomer [] stage = []
+  newcomer (a ∷ rest) Idle = []
+  newcomer (a ∷ rest) (Waits t) = []
+  newcomer (a ∷ rest) (Holds t) = []
+  newcomer (a ∷ rest) (Enrols n out) = account_of n a.base a.seen [] [] ∷ []
+  newcomer (a ∷ rest) Leaves = []
+  newcomer (a ∷ rest) Undoes = []
+  newcomer (a ∷ rest) Alone = []
+
+  -- the view without a place to keep, and that of the pass which is cut off
+  abbrev pub kept : View I B → View I B
+  kept v = view_of v.accounts Idle
+
+  abbrev pub enrolled : View I B → View I B
+  enrolled v = view_of (newcomer v.accounts v.stage) Idle
+
+  -- the accounts of two passes made one, with the longer of what they have seen
+  abbrev pub merged : List (Account I B) → List (Account I B) → List (Account I B)
+  merged [] others = []
+  merged (a ∷ rest) [] = a ∷ rest
+  merged (a ∷ rest) (b ∷ more) = account_of a.number a.base (longer a.seen b.seen) a.own a.asked ∷ rest
+
+  -- one pass in place of two, and a place too many in the roll
+  abbrev pub taken_in : View I B → View I B → View I B
+  taken_in v w = view_of (merged v.accounts w.accounts) Leaves
 
 module _ {V I B : Type 0} where
   -- a ticket was drawn, of which these are the lower bits
@@ -43,6 +76,32 @@ module _ {V I B : Type 0} where
   -- the seat has a ticket with these lower bits, and carries nothing
   abbrev pub HasTicket : ℕ → Me (Option V) (View I B) → Type 0
   HasTicket found me = (t : ℕ) × (found ≡ t % 2 ^ 64) × (me ≡ (view_of me.0.accounts (Waits t), []))
+
+  -- after a word of the roll was found the seat is at this stage
+  abbrev pub HasFound : Me (Option V) (View I B) → ℕ → Stage → Me (Option V) (View I B) → Type 0
+  HasFound me found stage me' = me' ≡ (view_of (map (noted found) me.0.accounts) stage, me.1)
+
+  -- a number was drawn and a place taken, or, past all numbers, both are to be undone
+  abbrev pub HasEnrolled : Me (Option V) (View I B) → ℕ → Me (Option V) (View I B) → Type 0
+  HasEnrolled me found me' =
+      (4294967168 ≤ drawn_in found → HasFound me found Undoes me')
+      × (drawn_in found < 4294967168 → HasFound me found (Enrols (drawn_in found) (out_in found)) me' × (number_in me.0.accounts < drawn_in found))
+
+  abbrev pub Enrolls : Step (Option V) → Me (Option V) (View I B) → ℕ → Me (Option V) (View I B) → Type 0
+  Enrolls st me found me' = HasEnrolled me found me'
+
+  -- the roll is right again
+  abbrev pub Releases : Step (Option V) → Me (Option V) (View I B) → ℕ → Me (Option V) (View I B) → Type 0
+  Releases st me found me' = me' ≡ (view_of me.0.accounts Idle, me.1)
+
+  -- one pass is out, which is this one, or more
+  abbrev pub HasCounted : Me (Option V) (View I B) → ℕ → Me (Option V) (View I B) → Type 0
+  HasCounted me found me' =
+      (out_in found ≡ 1 → HasFound me found Alone me')
+      × (out_in found ≢ 1 → HasFound me found Idle me' × (1 < out_in found))
+
+  abbrev pub Counts : Step (Option V) → Me (Option V) (View I B) → ℕ → Me (Option V) (View I B) → Type 0
+  Counts st me found me' = HasCounted me found me'
 
   abbrev pub Draws : Step (Option V) → Me (Option V) (View I B) → ℕ → Me (Option V) (View I B) → Type 0
   Draws st me found me' = HasDrawn me found me'
@@ -64,7 +123,7 @@ module _ {V I B : Type 0} (items : V → List I) (number : I → ℕ) (base : V 
   -- one pass has the turn, and may give this value back
   abbrev pub MayGive : View I B → V → Type 0
   MayGive v value =
-      (t : ℕ) × (n : ℕ) × (seen : List I) × (own : List I) × (new : List I) × (v ≡ view_of (account_of n (base value) seen own ∷ []) (Holds t))
+      (t : ℕ) × (n : ℕ) × (seen : List I) × (own : List I) × (asked : List ℕ) × (new : List I) × (v ≡ view_of (account_of n (base value) seen own asked ∷ []) (Holds t))
       × (items value ≡ seen ++ new) × All (λ e. number e ≡ n) new
 
   -- the value went home, and what the pass knows now fits it

@@ -1,12 +1,24 @@
 -- What a pass knows of the one list, and where it stands. This project's own.
-use Rattle.std.specs.Prelude.{◌≡◌, ℕ, ◌==◌, List, [], ◌∷◌, ◌++◌, filter, Option, Some, None, Bool, true, false, ◌&&◌, is_none}
+use Rattle.std.specs.Prelude.{◌≡◌, ℕ, ◌/◌, ◌%◌, ◌==◌, nat_lt, if◌then◌else◌, List, [], ◌∷◌, ◌++◌, length, filter, Option, Some, None, Bool, true, false, ◌&&◌, is_none}
 use Rattle.atomic_table.specs.Table.{Me}
 use Rattle.lg_turn.specs.declared.view.Account.{Account}
 use Rattle.lg_turn.specs.declared.view.View.{View}
 use Rattle.lg_turn.specs.declared.view.Stage.{Stage}
-use Rattle.lg_turn.specs.declared.view.Stage.TheVariants.{Idle, Waits, Holds}
+use Rattle.lg_turn.specs.declared.view.Stage.TheVariants.{Idle, Waits, Holds, Enrols, Leaves, Undoes, Alone}
+
+-- how many numbers were drawn before, in a word of the roll
+abbrev pub drawn_in : ℕ → ℕ
+drawn_in word = word / 4294967296
+
+-- how many passes were out, in a word of the roll
+abbrev pub out_in : ℕ → ℕ
+out_in word = word % 4294967296
 
 module _ {I : Type 0} where
+  -- of two beginnings of one list the longer one
+  abbrev pub longer : List I → List I → List I
+  longer xs ys = if nat_lt (length xs) (length ys) then ys else xs
+
   -- the list begins with these entries
   abbrev pub BeginsWith : List I → List I → Type 0
   BeginsWith list front = (rest : List I) × (list ≡ front ++ rest)
@@ -16,12 +28,12 @@ module _ {I : Type 0} where
   of_pass number n list = filter (λ e. number e == n) list
 
 module _ {I B : Type 0} where
-  abbrev pub account_of : ℕ → B → List I → List I → Account I B
-  account_of n base seen own = record { number = n; base = base; seen = seen; own = own }
+  abbrev pub account_of : ℕ → B → List I → List I → List ℕ → Account I B
+  account_of n base seen own asked = record { number = n; base = base; seen = seen; own = own; asked = asked }
 
   -- the account of a pass that has seen and made nothing
   abbrev pub blank : B → ℕ → Account I B
-  blank base n = account_of n base [] []
+  blank base n = account_of n base [] [] []
 
   abbrev pub first_of : List (Account I B) → List (Account I B)
   first_of [] = []
@@ -48,6 +60,10 @@ module _ {I B : Type 0} where
   own_in [] = []
   own_in (a ∷ rest) = a.own
 
+  abbrev pub asked_in : List (Account I B) → List ℕ
+  asked_in [] = []
+  asked_in (a ∷ rest) = a.asked
+
   abbrev pub view_of : List (Account I B) → Stage → View I B
   view_of accounts stage = record { accounts = accounts; stage = stage }
 
@@ -65,6 +81,10 @@ abbrev pub is_settled_at : {V : Type 0} → Stage → List (ℕ × Option V) →
 is_settled_at Idle carried = has_no_slot carried
 is_settled_at (Waits t) carried = false
 is_settled_at (Holds t) carried = has_empty_slot carried
+is_settled_at (Enrols n out) carried = false
+is_settled_at Leaves carried = false
+is_settled_at Undoes carried = false
+is_settled_at Alone carried = false
 
 -- between two calls a pass is away, or it has the turn and its caller the value
 abbrev pub is_settled : {V I B : Type 0} → Me (Option V) (View I B) → Bool

@@ -3,6 +3,7 @@
 //! which entries of it are its own.
 #![tactic(auto)]
 
+mod fault;
 mod keeps;
 pub mod laws;
 mod pass;
@@ -13,6 +14,7 @@ mod tests;
 mod turn;
 mod view;
 
+pub use fault::TurnFault;
 pub use keeps::Keeps;
 pub use pass::Pass;
 pub use turn::Turn;

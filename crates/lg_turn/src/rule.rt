@@ -1,16 +1,18 @@
 //! The rule of the table under a turn, and its steps.
 ghost use Rattle.lg_turn.specs.Rule.{IsKept};
-ghost use Rattle.lg_turn.specs.Steps.{beginning, Draws, Looks, Advances, cut_off, left_over, put_together, spent};
+ghost use Rattle.lg_turn.specs.Steps.{beginning, Draws, Looks, Advances, Enrolls, Releases, Counts, cut_off, left_over, kept, enrolled, put_together, taken_in, spent};
 
 use crate::keeps::Keeps;
 use crate::view::View;
 use atomic_table::{Join, Play, Split, TableRule};
 use std::snapshot::Snapshot;
 
-/// What the table is told once: how many passes there are, and the value that the list begins with.
+/// What the table is told once: how many passes there may be, how many there are first, and the value that the list
+/// begins with.
 #[derive(Drop)]
 pub struct Terms<V> {
     pub callers: u32,
+    pub passes: u32,
     pub first: Snapshot<V>,
 }
 
@@ -20,7 +22,7 @@ pub struct OneList;
 impl<V: Keeps> TableRule<Option<V>, View<V::Item, V::Base>, Terms<V>> for OneList {
     ghost holds = { λ terms. IsKept V.items V.number V.base terms.callers (V.base terms.first.value) };
 
-    ghost first = { λ terms. beginning terms.callers (V.base terms.first.value) };
+    ghost first = { λ terms. beginning terms.passes (V.base terms.first.value) };
 }
 
 pub struct Draw;
@@ -41,6 +43,24 @@ impl<V: Keeps> Play<Option<V>, View<V::Item, V::Base>> for Advance {
     ghost then = { Advances V.items V.number V.base };
 }
 
+pub struct Enrol;
+
+impl<V: Keeps> Play<Option<V>, View<V::Item, V::Base>> for Enrol {
+    ghost then = { Enrolls };
+}
+
+pub struct Release;
+
+impl<V: Keeps> Play<Option<V>, View<V::Item, V::Base>> for Release {
+    ghost then = { Releases };
+}
+
+pub struct Count;
+
+impl<V: Keeps> Play<Option<V>, View<V::Item, V::Base>> for Count {
+    ghost then = { Counts };
+}
+
 /// Cuts one pass off the first seat.
 pub struct Deal;
 
@@ -55,6 +75,24 @@ pub struct Collect;
 
 impl<I, B> Join<View<I, B>> for Collect {
     ghost both = { put_together };
+
+    ghost spent = { spent };
+}
+
+/// Makes a second pass of one that has enrolled it.
+pub struct Part;
+
+impl<I, B> Split<View<I, B>> for Part {
+    ghost left = { kept };
+
+    ghost right = { enrolled };
+}
+
+/// Takes one pass into another.
+pub struct Merge;
+
+impl<I, B> Join<View<I, B>> for Merge {
+    ghost both = { taken_in };
 
     ghost spent = { spent };
 }

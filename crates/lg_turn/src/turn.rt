@@ -3,7 +3,9 @@ ghost use Rattle.std.specs.Prelude.{◌≡◌, ◌<◌, ◌≤◌};
 
 mod close;
 mod give;
+mod join;
 mod make;
+mod split;
 mod take;
 
 use crate::keeps::Keeps;
@@ -35,10 +37,19 @@ const TICKET: usize = 0;
 /// The word that has the ticket which is served.
 const SERVING: usize = 1;
 
+/// The word that counts the numbers of passes that were drawn, in its upper 32 bits, and the passes that are out, in its
+/// lower 32 bits.
+const ROLL: usize = 2;
+
+/// One number and one pass more in the roll.
+const ONE_MORE: u64 = (1 << 32) + 1;
+
 /// A lock round one value, which passes take in the order in which they drew their tickets.
 #[derive(Drop)]
 pub struct Turn<V: Keeps> {
     table: TableOf<V>,
-    ghost sized: { (table.shared.table_id.words ≡ 2) × (table.shared.table_id.slots ≡ 1) },
+    callers: u32,
+    ghost sized: { (table.shared.table_id.words ≡ 3) × (table.shared.table_id.slots ≡ 1) },
+    ghost told: { callers ≡ table.shared.key.callers },
     ghost few: { (0 < table.shared.key.callers) × (table.shared.key.callers ≤ 65) },
 }

@@ -2,20 +2,28 @@
 
 use std::collections::LinkedList;
 
-/// What a pass knows of the one list: its base, the beginning that it has seen, and the entries that it made itself.
+/// What a pass knows of the one list: its base, the beginning that it has seen, and the entries that it made itself;
+/// and the words that it found where it asked how many passes there are, the last one first.
 pub struct Account<I, B> {
     pub number: u64,
     pub base: B,
     pub seen: LinkedList<I>,
     pub own: LinkedList<I>,
+    pub asked: LinkedList<u64>,
 }
 
 /// Where a pass stands: away from the turn, waiting with a ticket, or with the value out under a ticket. In proofs a
-/// ticket counts without bound.
+/// ticket counts without bound. Within one call a pass may also enrol another one, for which it has drawn a number and
+/// before which so many passes were out; leave a place that it counts for; undo a number and a place; or know that it
+/// is alone.
 pub enum Stage {
     Idle,
     Waits(u64),
     Holds(u64),
+    Enrols(u64, u64),
+    Leaves,
+    Undoes,
+    Alone,
 }
 
 /// The accounts for which a seat answers, one for each pass, and where it stands.

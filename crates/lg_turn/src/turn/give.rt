@@ -24,7 +24,7 @@ fn put_back<V: Keeps>(shared: &SharedOf<V>, seat: &mut SeatOf<V>, value: V)
 
 // Brings the value home, and then serves the next ticket.
 fn bring_home<V: Keeps>(shared: &SharedOf<V>, seat: &mut SeatOf<V>, value: V)
-    requires turn { (seat.old.table_id ≡ shared.now.table_id) × (shared.now.table_id.words ≡ 2) }
+    requires turn { (seat.old.table_id ≡ shared.now.table_id) × (shared.now.table_id.words ≡ 3) }
     requires empty { seat.old.me.1 ≡ (0, None) ∷ [] }
     requires may_give { MayGive V.items V.number V.base seat.old.me.0 value }
     ensures same { (seat.new.table_id ≡ seat.old.table_id) × (seat.new.id ≡ seat.old.id) }

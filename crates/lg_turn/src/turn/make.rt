@@ -6,7 +6,7 @@ ghost use Rattle.lg_turn.specs.Views.{blank, view_of};
 ghost use Rattle.lg_turn.specs.Steps.{beginning};
 ghost use Rattle.lg_turn.specs.Passes.{number_of, IsNew, IsPassOf, callers_of, origin_of};
 
-use super::{SeatOf, SharedOf, TableOf, Turn};
+use super::{ONE_MORE, SeatOf, SharedOf, TableOf, Turn};
 use crate::keeps::Keeps;
 use crate::pass::Pass;
 use crate::rule::{Deal, Terms};
@@ -16,7 +16,7 @@ use std::alloc::Global;
 use std::snapshot::Snapshot;
 
 impl<V: Keeps> Pass<V> {
-    /// The number of the pass, from 0 to the number of callers less 1.
+    /// The number of the pass, which no other pass of its turn ever has. The first passes have the numbers from 0 on.
     pub fn number(&self) -> u32
         ensures { result ≡ number_of self.now }
     {
@@ -40,17 +40,18 @@ fn only<V>(mut slots: Vec<Option<V>>) -> V
 // A table with the value in its slot, and the seat that answers for all passes.
 fn open<V: Keeps>(alloc: Global, value: V, terms: &Terms<V>) -> Result<(TableOf<V>, SeatOf<V>), V>
     requires first { terms.now.first.value ≡ value }
-    requires few { terms.now.callers ≤ 65 }
+    requires few { (terms.now.passes ≤ terms.now.callers) × (terms.now.callers ≤ 65) }
     requires empty { V.items value ≡ [] }
-    ensures sized { IfOk result (λ t. (t.0.shared.table_id.words ≡ 2) × (t.0.shared.table_id.slots ≡ 1) × (t.0.shared.key ≡ terms.now)) }
-    ensures seat { IfOk result (λ t. (t.1.table_id ≡ t.0.shared.table_id) × (t.1.me ≡ (beginning terms.now.callers (V.base value), []))) }
+    ensures sized { IfOk result (λ t. (t.0.shared.table_id.words ≡ 3) × (t.0.shared.table_id.slots ≡ 1) × (t.0.shared.key ≡ terms.now)) }
+    ensures seat { IfOk result (λ t. (t.1.table_id ≡ t.0.shared.table_id) × (t.1.me ≡ (beginning terms.now.passes (V.base value), []))) }
     ensures err { IfErr result (λ back. back ≡ value) }
 {
     let Ok(mut slots) = Vec::with_capacity(alloc, 1) else {
         return Err(value);
     };
     slots.push_reserved(Some(value));
-    match Table::new(alloc, &[0, 0], slots, terms) {
+    let roll = (terms.passes as u64) * ONE_MORE;
+    match Table::new(alloc, &[0, 0, roll], slots, terms) {
         Ok(made) => Ok(made),
         Err(Refused { slots }) => Err(only(slots)),
     }
@@ -71,7 +72,7 @@ fn deal<V: Keeps>(
     mut passes: Vec<Pass<V>>,
     callers: u32,
 ) -> Vec<Pass<V>>
-    requires turn { (seat.table_id ≡ shared.now.table_id) × (shared.now.table_id.words ≡ 2) }
+    requires turn { (seat.table_id ≡ shared.now.table_id) × (shared.now.table_id.words ≡ 3) }
     requires first { (callers ≡ shared.now.key.callers) × (seat.me ≡ (beginning callers (V.base shared.now.key.first.value), [])) }
     requires room { (0 < callers) × (passes.items ≡ []) × (callers ≤ vec_capacity passes) }
     ensures numbers { map number_of result.items ≡ range_with_len 0 callers }
@@ -86,6 +87,32 @@ fn deal<V: Keeps>(
 }
 
 impl<V: Keeps> Turn<V> {
+    /// Makes a turn round a value whose list is empty, with one pass, whose number is 0, and room for as many passes as
+    /// there are callers: from 1 to 65. The pass has the base of the value, and has seen and made nothing. Where memory
+    /// runs out the value comes back.
+    pub fn make(alloc: Global, value: V, callers: u32) -> Result<(Turn<V>, Pass<V>), (V, NoMemory)>
+        requires callers { (1 ≤ callers) × (callers ≤ 65) }
+        requires empty { V.items value ≡ [] }
+        ensures callers { IfOk result (λ made. callers_of made.0 ≡ callers) }
+        ensures base { IfOk result (λ made. origin_of V.base made.0 ≡ V.base value) }
+        ensures pass { IfOk result (λ made. IsPassOf made.0 made.1 × (number_of made.1 ≡ 0)) }
+        ensures new { IfOk result (λ made. IsNew (V.base value) made.1) }
+        ensures err { IfErr result (λ back. back.0 ≡ value) }
+    {
+        let terms = Terms {
+            callers,
+            passes: 1,
+            first: Snapshot::of(&value),
+        };
+        match open(alloc, value, &terms) {
+            Ok((table, seat)) => {
+                let pass = pass_at(0, seat);
+                Ok((Turn { table, callers }, pass))
+            }
+            Err(value) => Err((value, NoMemory)),
+        }
+    }
+
     /// Makes a turn round a value whose list is empty, with as many passes as there are callers: from 1 to 65, with
     /// the numbers from 0 on. Each has the base of the value, and has seen and made nothing. Where memory runs out the
     /// value comes back.
@@ -108,12 +135,13 @@ impl<V: Keeps> Turn<V> {
         };
         let terms = Terms {
             callers,
+            passes: callers,
             first: Snapshot::of(&value),
         };
         match open(alloc, value, &terms) {
             Ok((table, seat)) => {
                 let passes = deal(&table.shared, seat, passes, callers);
-                Ok((Turn { table }, passes))
+                Ok((Turn { table, callers }, passes))
             }
             Err(value) => Err((value, NoMemory)),
         }

@@ -13,7 +13,7 @@ use std::sync::Wait;
 
 // Draws the next ticket, and answers its lower 64 bits.
 fn draw<V: Keeps>(shared: &SharedOf<V>, seat: &mut SeatOf<V>) -> u64
-    requires turn { (seat.old.table_id ≡ shared.now.table_id) × (shared.now.table_id.words ≡ 2) }
+    requires turn { (seat.old.table_id ≡ shared.now.table_id) × (shared.now.table_id.words ≡ 3) }
     requires away { (seat.old.me.0.stage ≡ Idle) × (0 < length seat.old.me.0.accounts) }
     ensures same { (seat.new.table_id ≡ seat.old.table_id) × (seat.new.id ≡ seat.old.id) }
     ensures drawn { HasDrawn seat.old.me result seat.new.me }
@@ -23,7 +23,7 @@ fn draw<V: Keeps>(shared: &SharedOf<V>, seat: &mut SeatOf<V>) -> u64
 
 // Reads which ticket is served. Where it is this one, the value comes out to the seat.
 fn look<V: Keeps>(shared: &SharedOf<V>, seat: &mut SeatOf<V>, ticket: u64) -> u64
-    requires turn { (seat.old.table_id ≡ shared.now.table_id) × (shared.now.table_id.words ≡ 2) }
+    requires turn { (seat.old.table_id ≡ shared.now.table_id) × (shared.now.table_id.words ≡ 3) }
     requires waits { HasTicket ticket seat.old.me }
     ensures same { (seat.new.table_id ≡ seat.old.table_id) × (seat.new.id ≡ seat.old.id) }
     ensures other { result ≢ ticket → seat.new.me ≡ seat.old.me }
@@ -34,7 +34,7 @@ fn look<V: Keeps>(shared: &SharedOf<V>, seat: &mut SeatOf<V>, ticket: u64) -> u6
 
 // Waits until the ticket is served. Between two looks the thread sleeps until the word changes.
 fn wait<V: Keeps, R: Wait>(rt: &R, shared: &SharedOf<V>, seat: &mut SeatOf<V>, ticket: u64)
-    requires turn { (seat.old.table_id ≡ shared.now.table_id) × (shared.now.table_id.words ≡ 2) }
+    requires turn { (seat.old.table_id ≡ shared.now.table_id) × (shared.now.table_id.words ≡ 3) }
     requires waits { HasTicket ticket seat.old.me }
     ensures same { (seat.new.table_id ≡ seat.old.table_id) × (seat.new.id ≡ seat.old.id) }
     ensures served { HasTaken V.items V.number V.base seat.old.me.0.accounts seat.new.me }

@@ -1,20 +1,30 @@
-use Rattle.lg_turn.proofs.Gathering.{closed, closed_as}
+use Rattle.std.proofs.Common.{Option, subst}
+use Rattle.atomic_table.specs.Table.{Me}
+use Rattle.lg_turn.specs.declared.view.View.{View}
+use Rattle.lg_turn.specs.Closings.{Ends}
+use Rattle.lg_turn.proofs.Gathering.{all_places, ended}
 use Rattle.lg_turn.proofs.turn.Turn.close_all.Goals as goal
 
-pub unreachable-requires : goal.unreachable-requires
-unreachable-requires g c =
+pub value_of-requires-clause-all : goal.value_of-requires-clause-all
+value_of-requires-clause-all g c =
     let k = g.V.Keeps in
     let shared = c.args.self.table.shared in
-    let seat = c.collect-seat.result in
-    let end = closed k.items k.number k.base shared.key.callers (k.base shared.key.first.value) seat.id seat.me c.args.passes.items _ _ c.take-slot.result c.collect-seat.ensures.all c.close_with-closed.ensures.values.2 c.requires.all c.take-slot.ensures.value in
-    c.in_default.not-Some end.0 end.1
+    (all_places k.items k.number k.base shared.key.callers (k.base shared.key.first.value) c.collect-seat.result.me c.args.passes.items c.requires.all c.collect-seat.ensures.all).0
+
+pub value_of-requires-clause-without : goal.value_of-requires-clause-without
+value_of-requires-clause-without g c =
+    let k = g.V.Keeps in
+    let shared = c.args.self.table.shared in
+    (all_places k.items k.number k.base shared.key.callers (k.base shared.key.first.value) c.collect-seat.result.me c.args.passes.items c.requires.all c.collect-seat.ensures.all).1
 
 pub returns : goal.returns
 returns g c =
     let k = g.V.Keeps in
     let shared = c.args.self.table.shared in
-    let seat = c.collect-seat.result in
-    let end = closed_as k.items k.number k.base shared.key.callers (k.base shared.key.first.value) seat.id seat.me c.args.passes.items _ _ c.take-slot.result c.in-Some.value c.collect-seat.ensures.all c.close_with-closed.ensures.values.2 c.requires.all c.take-slot.ensures.value c.in-Some.is in record {
+    let origin = k.base shared.key.first.value in
+    let value = c.value_of.result in
+    let end = ended k.items k.number k.base shared.key.callers origin c.args.passes.items value c.requires.all
+    (subst (λ (me : Me (Option g.row.V.Denot) (View g.row.V-Item.Denot g.row.V-Base.Denot)). Ends k.items k.number k.base shared.key.callers origin me.0 value) c.collect-seat.ensures.all c.value_of.ensures.ends) in record {
       base = end.base_is;
       bases = end.bases;
       begins = end.begins;

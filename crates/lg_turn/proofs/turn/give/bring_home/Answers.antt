@@ -17,14 +17,14 @@ fetch_add-requires g c =
     let slots = c.args.shared.now.table_id.slots in
     let value = c.args.value in
     let may = c.requires.may_give in
-    let is = c.put_back.ensures.filled ∙ ap (λ (v : View g.row.V-Item.Denot g.row.V-Base.Denot). (v, (0, Some value) ∷ [])) may.5 in (
+    let is = c.put_back.ensures.filled ∙ ap (λ (v : View g.row.V-Item.Denot g.row.V-Base.Denot). (v, (0, Some value) ∷ [])) may.6 in (
       c.put_back.ensures.same.0 ∙ c.requires.turn.0,
       omega (arith, c.requires.turn.1),
       subst
           (λ (me : Me (Option g.row.V.Denot) (View g.row.V-Item.Denot g.row.V-Base.Denot)).
           Allows (IsKept k.items k.number k.base terms.callers (k.base terms.first.value)) slots seat.id me 1 (λ m. (m + 1) % 2 ^ 64) (Advances k.items k.number k.base (step slots 1 1 0 none) me))
           (sym is)
-          (advances k.items k.number k.base terms.callers (k.base terms.first.value) slots seat.id may.0 may.1 (k.base value) may.2 may.3 may.4 value refl may.6 may.7),
+          (advances k.items k.number k.base terms.callers (k.base terms.first.value) slots seat.id may.0 may.1 (k.base value) may.2 may.3 may.4 may.5 value refl may.7 may.8),
     )
 
 pub returns-clause-given : goal.returns-clause-given

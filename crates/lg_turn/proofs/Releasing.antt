@@ -1,0 +1,89 @@
+-- A pass that takes out of the roll what it has too many there keeps the rule.
+use Rattle.std.proofs.Common.{◌≡◌, ℕ, ◌+◌, ◌-◌, ◌*◌, ◌%◌, ◌^◌, ◌<◌, ◌≤◌, List, [], ◌∷◌, length, set, get_or, arith, ap, sym, refl, subst, Option}
+use mathlib.Core.Option.{some, none}
+use lib.ListN.{get_elem?}
+use Rattle.std.specs.List.{sum_by}
+use Rattle.atomic_table.specs.Table.{State, step, keeps, stepped, Allows}
+use Rattle.lg_turn.specs.declared.view.Account.{Account}
+use Rattle.lg_turn.specs.declared.view.View.{View}
+use Rattle.lg_turn.specs.declared.view.Stage.{Stage}
+use Rattle.lg_turn.specs.declared.view.Stage.TheVariants.{Idle, Waits, Holds, Enrols, Leaves, Undoes, Alone}
+use Rattle.lg_turn.specs.Views.{view_of}
+use Rattle.lg_turn.specs.Rule.{passes_of, with_number, low_of, out_of, undone_of, ticket_count, same_ticket, value_count, out_count, undone_count, Roll, IsKept}
+use Rattle.lg_turn.specs.Steps.{Releases}
+use Rattle.lg_turn.proofs.Sums.{sum_by_set, part-le-sum_by}
+use Rattle.lg_turn.proofs.Rolls.{outs_few, undone_few}
+use Rattle.lg_turn.proofs.Enrolling.{rolled}
+
+-- who has a place too many in the roll has no ticket and no value
+quiet : (stage : Stage) → out_count stage ≡ 1 → (0 ≡ ticket_count stage) × ((t : ℕ) → 0 ≡ same_ticket t stage) × (0 ≡ value_count stage)
+quiet Idle h = absurd (omega arith)
+quiet (Waits t) h = absurd (omega arith)
+quiet (Holds t) h = absurd (omega arith)
+quiet (Enrols n out) h = (refl, (λ t. refl), refl)
+quiet Leaves h = (refl, (λ t. refl), refl)
+quiet Undoes h = (refl, (λ t. refl), refl)
+quiet Alone h = absurd (omega arith)
+
+module _ {V I B : Type 0} (items : V → List I) (number : I → ℕ) (base : V → B) (callers : ℕ) (origin : B) where
+  abbrev Rule : State (Option V) (View I B) → Type 0
+  Rule = IsKept items number base callers origin
+
+  module _ (s : State (Option V) (View I B)) (k : Rule s) (id excess : ℕ) (accounts : List (Account I B)) (stage : Stage) (one_out : out_count stage ≡ 1) (is : excess ≡ undone_count stage * 4294967296 + 1)
+      (at : get_elem? s.views id ≡ some (view_of accounts stage)) where
+    abbrev v : View I B
+    v = view_of accounts stage
+
+    abbrev w : View I B
+    w = view_of accounts Idle
+
+    out_moved : sum_by out_of (set s.views id w) + 1 ≡ sum_by out_of s.views
+    out_moved = let m = sum_by_set out_of s.views id v w at in omega (arith, m, one_out)
+
+    undone_moved : sum_by undone_of (set s.views id w) + undone_count stage ≡ sum_by undone_of s.views
+    undone_moved = let m = sum_by_set undone_of s.views id v w at in omega (arith, m)
+
+    passes_moved : sum_by (passes_of callers) (set s.views id w) ≤ sum_by (passes_of callers) s.views
+    passes_moved = let m = sum_by_set (passes_of callers) s.views id v w at in omega (arith, m)
+
+    numbers_moved : (n : ℕ) → sum_by (with_number n) (set s.views id w) ≤ sum_by (with_number n) s.views
+    numbers_moved n = let m = sum_by_set (with_number n) s.views id v w at in omega (arith, m)
+
+    low_moved : sum_by (low_of callers) (set s.views id w) ≤ sum_by (low_of callers) s.views
+    low_moved = let m = sum_by_set (low_of callers) s.views id v w at in omega (arith, m)
+
+    word_less : (k.word + (2 ^ 64 - excess)) % 2 ^ 64 ≡ k.word - excess
+    word_less =
+        let small = k.roll.small in
+        let few = outs_few items number base callers origin s k in
+        let undone = undone_few items number base callers origin s k in
+        omega (arith, k.roll.counted, small, few, undone, out_moved, undone_moved, is)
+
+    roll_released : Roll items number base callers k.list k.made (k.word - excess) (set s.views id w)
+    roll_released =
+        let r = k.roll in record {
+          counted = omega (arith, r.counted, out_moved, undone_moved, is);
+          small = r.small;
+          spent = λ h. r.spent (omega (arith, h, undone_moved));
+          passes = omega (arith, passes_moved, r.passes);
+          numbers = λ n. let less = numbers_moved n in let o = r.numbers n in (omega (arith, less, o.0), λ l. let z = o.1 l in omega (arith, less, z));
+          entered = r.entered;
+          whole = λ h. r.whole (omega (arith, h, low_moved));
+        }
+
+    released : Rule (stepped s 2 ((k.word + (2 ^ 64 - excess)) % 2 ^ 64) id [] w keeps)
+    released =
+        let q = quiet stage one_out in
+        subst (λ (n : ℕ). Rule (stepped s 2 n id [] w keeps)) (sym word_less)
+        (rolled items number base callers origin s k id accounts accounts stage Idle at q.0 q.1 q.2 record { fits = (k.each_pass id v at).fits; stands = tt } [] k.made (k.word - excess) roll_released)
+
+  pub releases : (slots id excess : ℕ) (accounts : List (Account I B)) (stage : Stage) → out_count stage ≡ 1 → excess ≡ undone_count stage * 4294967296 + 1
+      → Allows Rule slots id (view_of accounts stage, []) 2 (λ n. (n + (2 ^ 64 - excess)) % 2 ^ 64) (Releases (step slots 2 excess 0 none) (view_of accounts stage, []))
+  releases slots id excess accounts stage one_out is s k sized at small =
+      let found_is : get_or s.words 2 0 ≡ k.word = ap (λ (l : List ℕ). get_or l 2 0) k.words in (
+        view_of accounts Idle,
+        keeps,
+        tt,
+        subst (λ (n : ℕ). Rule (stepped s 2 ((n + (2 ^ 64 - excess)) % 2 ^ 64) id [] (view_of accounts Idle) keeps)) (sym found_is) (released s k id excess accounts stage one_out is at),
+        refl,
+      )
