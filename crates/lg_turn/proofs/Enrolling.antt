@@ -1,10 +1,9 @@
 -- A pass that enters another one in the roll, or takes out what it has too many there, keeps the rule.
-use Rattle.std.proofs.Common.{◌≡◌, ◌≢◌, ℕ, ◌+◌, ◌-◌, ◌*◌, ◌%◌, ◌^◌, ◌<◌, ◌≤◌, List, [], ◌∷◌, length, map, set, get_or, arith, ap, sym, refl, ◌∙◌, subst, Option, Bool, cond}
-use mathlib.Core.Option.{Option as Maybe, some, none}
+use Rattle.std.proofs.Common.{◌≡◌, ◌≢◌, ℕ, ◌+◌, ◌%◌, ◌^◌, ◌<◌, ◌≤◌, List, [], ◌∷◌, length, map, set, get_or, arith, ap, sym, refl, ◌∙◌, subst, Option, Bool, cond}
+use mathlib.Core.Option.{some, none}
 use mathlib.Core.Logic.{dite}
 use native.Mathlib.Decide.{ℕ_discrete, dec_lt, dec_le}
 use lib.ListN.{get_elem?}
-use lib.Seq.{set-get_or}
 use Rattle.std.specs.Prelude.{◌==◌, nat_lt, if◌then◌else◌}
 use Rattle.std.specs.List.{sum_by, All}
 use Rattle.std.proofs.lemmas.Bool.{le-ltb}
@@ -17,8 +16,8 @@ use Rattle.lg_turn.specs.declared.view.View.{View}
 use Rattle.lg_turn.specs.declared.view.Stage.{Stage}
 use Rattle.lg_turn.specs.declared.view.Stage.TheVariants.{Idle, Enrols, Undoes, Alone}
 use Rattle.lg_turn.specs.Views.{view_of, number_in, drawn_in, out_in, of_pass}
-use Rattle.lg_turn.specs.Rule.{passes_of, with_number, low_of, out_of, undone_of, values_of, tickets_of, with_ticket, ticket_count, same_ticket, value_count, place_count, out_count, undone_count, same_number, low_count, Stands, Fits, Knows, Roll, IsKept}
-use Rattle.lg_turn.specs.Steps.{noted, HasEnrolled, Enrolls, Releases, HasCounted, Counts}
+use Rattle.lg_turn.specs.Rule.{passes_of, with_number, low_of, out_of, undone_of, values_of, tickets_of, with_ticket, ticket_count, same_ticket, value_count, place_count, out_count, undone_count, same_number, low_count, Fits, Knows, Roll, IsKept}
+use Rattle.lg_turn.specs.Steps.{noted, Enrolls, Counts}
 use Rattle.lg_turn.proofs.Sums.{sum_by_set, each_set, part-le-sum_by}
 use Rattle.lg_turn.proofs.Counts.{one_if_same, none_if_other, one_low, none_low}
 use Rattle.lg_turn.proofs.Parts.{sum_stays}

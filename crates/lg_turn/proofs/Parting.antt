@@ -1,5 +1,5 @@
 -- A pass that is split off another, or taken into another, keeps the rule.
-use Rattle.std.proofs.Common.{◌≡◌, ◌≢◌, ℕ, ◌+◌, ◌<◌, ◌≤◌, List, [], ◌∷◌, ◌++◌, length, set, arith, ap, sym, refl, ◌∙◌, subst, ⊎_elim, Option, Bool, true, false, cond}
+use Rattle.std.proofs.Common.{◌≡◌, ◌≢◌, ℕ, ◌+◌, ◌<◌, List, [], ◌∷◌, ◌++◌, length, set, arith, ap, sym, refl, subst, ⊎_elim, Option, Bool, true, false, cond}
 use mathlib.Core.Option.{some}
 use lib.ListN.{get_elem?}
 use Rattle.std.specs.Prelude.{◌==◌, nat_lt, if◌then◌else◌}

@@ -1,5 +1,5 @@
 -- A pass that takes out of the roll what it has too many there keeps the rule.
-use Rattle.std.proofs.Common.{◌≡◌, ℕ, ◌+◌, ◌-◌, ◌*◌, ◌%◌, ◌^◌, ◌<◌, ◌≤◌, List, [], ◌∷◌, length, set, get_or, arith, ap, sym, refl, subst, Option}
+use Rattle.std.proofs.Common.{◌≡◌, ℕ, ◌+◌, ◌-◌, ◌*◌, ◌%◌, ◌^◌, ◌≤◌, List, [], set, get_or, arith, ap, sym, refl, subst, Option}
 use mathlib.Core.Option.{some, none}
 use lib.ListN.{get_elem?}
 use Rattle.std.specs.List.{sum_by}
@@ -11,7 +11,7 @@ use Rattle.lg_turn.specs.declared.view.Stage.TheVariants.{Idle, Waits, Holds, En
 use Rattle.lg_turn.specs.Views.{view_of}
 use Rattle.lg_turn.specs.Rule.{passes_of, with_number, low_of, out_of, undone_of, ticket_count, same_ticket, value_count, out_count, undone_count, Roll, IsKept}
 use Rattle.lg_turn.specs.Steps.{Releases}
-use Rattle.lg_turn.proofs.Sums.{sum_by_set, part-le-sum_by}
+use Rattle.lg_turn.proofs.Sums.{sum_by_set}
 use Rattle.lg_turn.proofs.Rolls.{outs_few, undone_few}
 use Rattle.lg_turn.proofs.Enrolling.{rolled}
 

@@ -1,4 +1,4 @@
-use Rattle.std.proofs.Common.{◌≡◌, ◌+◌, ◌%◌, ◌^◌, [], Option, sym, subst, arith}
+use Rattle.std.proofs.Common.{◌+◌, ◌%◌, ◌^◌, Option, sym, subst, arith}
 use mathlib.Core.Option.{none}
 use Rattle.atomic_table.specs.Table.{Me, step, Allows}
 use Rattle.lg_turn.specs.declared.view.View.{View}
