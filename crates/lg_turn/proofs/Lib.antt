@@ -18,3 +18,4 @@ pub mod Enrolling
 pub mod Releasing
 pub mod Parting
 pub mod Lone
+pub mod Numbers

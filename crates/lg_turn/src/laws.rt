@@ -1,13 +1,13 @@
 //! What the definitions come to.
-ghost use Rattle.std.specs.Prelude.{◌≡◌, ◌≢◌, ℕ, ◌<◌, List, [], ◌∷◌, ◌++◌, length, All, sum_by};
+ghost use Rattle.std.specs.Prelude.{◌≡◌, ◌≢◌, ℕ, ◌<◌, ◌≤◌, List, [], ◌∷◌, ◌++◌, length, slice_index, All, sum_by};
 ghost use Rattle.std.specs.List.{range_with_len};
 ghost use mathlib.Core.Option.{some};
 ghost use lib.ListN.{get_elem?};
 ghost use Rattle.atomic_table.specs.Table.{State};
 ghost use Rattle.lg_turn.specs.declared.view.View.{View};
 ghost use Rattle.lg_turn.specs.declared.view.Stage.TheVariants.{Holds};
-ghost use Rattle.lg_turn.specs.Views.{of_pass};
-ghost use Rattle.lg_turn.specs.Rule.{IsKept};
+ghost use Rattle.lg_turn.specs.Views.{of_pass, drawn_in, out_in};
+ghost use Rattle.lg_turn.specs.Rule.{IsKept, with_number, out_of};
 
 use crate::keeps::Keeps;
 
@@ -32,4 +32,35 @@ pub fn one_at_a_time<V: Keeps>()
     ensures { (callers : ℕ) (base : V.Base) (s : State _ (View V.Item V.Base)) (i j t u : ℕ) (v w : View V.Item V.Base)
         → IsKept V.items V.number V.base callers base s
         → get_elem? s.views i ≡ some v → v.stage ≡ Holds t → get_elem? s.views j ≡ some w → w.stage ≡ Holds u → i ≡ j }
+{}
+
+/// In the roll stands how many passes are out. One that is about to be split off, or to be taken out of the roll, counts.
+pub fn the_roll_counts_passes<V: Keeps>()
+    ensures { (callers : ℕ) (base : V.Base) (s : State _ (View V.Item V.Base)) → IsKept V.items V.number V.base callers base s
+        → out_in (slice_index s.words 2) ≡ sum_by out_of s.views }
+{}
+
+/// The number that the roll gives to the next pass is above that of each pass.
+pub fn the_next_number_is_new<V: Keeps>()
+    ensures { (callers : ℕ) (base : V.Base) (s : State _ (View V.Item V.Base)) (i n : ℕ) (v : View V.Item V.Base)
+        → IsKept V.items V.number V.base callers base s → get_elem? s.views i ≡ some v → 0 < with_number n v → n < drawn_in (slice_index s.words 2) }
+{}
+
+/// And above that of each entry.
+pub fn the_next_number_has_no_entry<V: Keeps>()
+    ensures { (callers : ℕ) (base : V.Base) (s : State _ (View V.Item V.Base)) (k : IsKept V.items V.number V.base callers base s)
+        → All (λ e. V.number e < drawn_in (slice_index s.words 2)) k.list }
+{}
+
+/// Two seats never have passes of one number.
+pub fn no_number_twice<V: Keeps>()
+    ensures { (callers : ℕ) (base : V.Base) (s : State _ (View V.Item V.Base)) (i j n : ℕ) (v w : View V.Item V.Base)
+        → IsKept V.items V.number V.base callers base s
+        → get_elem? s.views i ≡ some v → 0 < with_number n v → get_elem? s.views j ≡ some w → 0 < with_number n w → i ≡ j }
+{}
+
+/// There are never more passes than callers.
+pub fn never_more_than_callers<V: Keeps>()
+    ensures { (callers : ℕ) (base : V.Base) (s : State _ (View V.Item V.Base)) → IsKept V.items V.number V.base callers base s
+        → sum_by (λ v. length v.accounts) s.views ≤ callers }
 {}
