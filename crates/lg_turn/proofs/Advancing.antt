@@ -11,7 +11,7 @@ use Rattle.atomic_table.specs.Table.{State, step, gives, stepped, Allows}
 use Rattle.lg_turn.specs.declared.view.Account.{Account}
 use Rattle.lg_turn.specs.declared.view.View.{View}
 use Rattle.lg_turn.specs.declared.view.Stage.{Stage}
-use Rattle.lg_turn.specs.declared.view.Stage.TheVariants.{Idle, Waits, Holds, Enrols, Leaves, Undoes, Alone}
+use Rattle.lg_turn.specs.declared.view.Stage.TheVariants.{Idle, Waits, Holds, Enrols, Undoes, Alone}
 use Rattle.lg_turn.specs.Views.{view_of, account_of}
 use Rattle.lg_turn.specs.Rule.{same_number, low_of, with_number, values_of, tickets_of, with_ticket, value_count, Stands, Slot, Fits, Knows, IsKept}
 use Rattle.lg_turn.specs.Steps.{Advances, after_give}
@@ -36,7 +36,6 @@ module _ {V I B : Type 0} (items : V → List I) (number : I → ℕ) (base : V 
   stands_on list new n own_new serving serving' accounts (Waits t) none_out other h = h
   stands_on list new n own_new serving serving' accounts (Holds t) none_out other h = absurd (omega arith)
   stands_on list new n own_new serving serving' accounts (Enrols m out) none_out other h = (h.0, of_pass-still_none number n m list new (λ same. let one = one_if_same m n same in omega (arith, one, other)) own_new h.1)
-  stands_on list new n own_new serving serving' accounts Leaves none_out other h = h
   stands_on list new n own_new serving serving' accounts Undoes none_out other h = h
   stands_on list new n own_new serving serving' accounts Alone none_out other h = h
 

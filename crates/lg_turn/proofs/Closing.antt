@@ -9,7 +9,7 @@ use Rattle.atomic_table.specs.Table.{State, Final, Seen}
 use Rattle.lg_turn.specs.declared.view.Account.{Account}
 use Rattle.lg_turn.specs.declared.view.View.{View}
 use Rattle.lg_turn.specs.declared.view.Stage.{Stage}
-use Rattle.lg_turn.specs.declared.view.Stage.TheVariants.{Idle, Waits, Holds, Enrols, Leaves, Undoes, Alone}
+use Rattle.lg_turn.specs.declared.view.Stage.TheVariants.{Idle, Waits, Holds, Enrols, Undoes, Alone}
 use Rattle.lg_turn.specs.Rule.{passes_of, low_of, values_of, value_count, Stands, Fits, IsKept}
 use Rattle.lg_turn.specs.Closings.{Ends}
 use Rattle.lg_turn.proofs.Sums.{part-le-sum_by, two_parts-le-sum_by, some_part}
@@ -20,7 +20,6 @@ module _ {V I B : Type 0} (items : V → List I) (number : I → ℕ) (base : V 
   holder_is_pass list serving accounts (Waits t) h out = h
   holder_is_pass list serving accounts (Holds t) h out = h.0
   holder_is_pass list serving accounts (Enrols n o) h out = h.0
-  holder_is_pass list serving accounts Leaves h out = h
   holder_is_pass list serving accounts Undoes h out = h
   holder_is_pass list serving accounts Alone h out = h
 

@@ -19,3 +19,4 @@ pub mod Releasing
 pub mod Parting
 pub mod Lone
 pub mod Numbers
+pub mod Absorbing

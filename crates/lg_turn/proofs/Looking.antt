@@ -12,7 +12,7 @@ use Rattle.atomic_table.proofs.Lists.{one_turn, set_again}
 use Rattle.lg_turn.specs.declared.view.Account.{Account}
 use Rattle.lg_turn.specs.declared.view.View.{View}
 use Rattle.lg_turn.specs.declared.view.Stage.{Stage}
-use Rattle.lg_turn.specs.declared.view.Stage.TheVariants.{Idle, Waits, Holds, Enrols, Leaves, Undoes, Alone}
+use Rattle.lg_turn.specs.declared.view.Stage.TheVariants.{Idle, Waits, Holds, Enrols, Undoes, Alone}
 use Rattle.lg_turn.specs.Views.{view_of}
 use Rattle.lg_turn.specs.Rule.{passes_of, values_of, tickets_of, with_ticket, ticket_count, same_ticket, value_count, Stands, Fits, Knows, IsKept}
 use Rattle.lg_turn.specs.Steps.{Looks, after_take}
@@ -28,7 +28,6 @@ module _ {V I B : Type 0} (items : V → List I) (number : I → ℕ) (base : V 
   ticket_count-le-length list serving accounts (Waits t) h = h
   ticket_count-le-length list serving accounts (Holds t) h = h.0
   ticket_count-le-length list serving accounts (Enrols n out) h = omega arith
-  ticket_count-le-length list serving accounts Leaves h = omega arith
   ticket_count-le-length list serving accounts Undoes h = omega arith
   ticket_count-le-length list serving accounts Alone h = omega arith
 
@@ -38,7 +37,6 @@ module _ {V I B : Type 0} (items : V → List I) (number : I → ℕ) (base : V 
   holder_serves list serving accounts (Waits t) h out = absurd (omega arith)
   holder_serves list serving accounts (Holds t) h out = one_if_same serving t (sym h.1)
   holder_serves list serving accounts (Enrols n o) h out = absurd (omega arith)
-  holder_serves list serving accounts Leaves h out = absurd (omega arith)
   holder_serves list serving accounts Undoes h out = absurd (omega arith)
   holder_serves list serving accounts Alone h out = absurd (omega arith)
 

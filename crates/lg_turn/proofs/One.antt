@@ -4,7 +4,7 @@ use Rattle.std.specs.Prelude.{IsTrue}
 use Rattle.std.proofs.lemmas.Bool.Decides.{nat_tests}
 use Rattle.lg_turn.specs.declared.view.Account.{Account}
 use Rattle.lg_turn.specs.declared.view.Stage.{Stage}
-use Rattle.lg_turn.specs.declared.view.Stage.TheVariants.{Idle, Waits, Holds, Enrols, Leaves, Undoes, Alone}
+use Rattle.lg_turn.specs.declared.view.Stage.TheVariants.{Idle, Waits, Holds, Enrols, Undoes, Alone}
 use Rattle.lg_turn.specs.Views.{account_of, number_in, base_in, seen_in, own_in, asked_in, has_empty_slot, is_settled_at}
 
 module _ {I B : Type 0} where
@@ -21,7 +21,6 @@ away_carries Idle (x ∷ rest) h e = absurd (cc)
 away_carries (Waits t) carried h e = absurd (cc)
 away_carries (Holds t) carried h e = absurd (cc)
 away_carries (Enrols n out) carried h e = absurd (cc)
-away_carries Leaves carried h e = absurd (cc)
 away_carries Undoes carried h e = absurd (cc)
 away_carries Alone carried h e = absurd (cc)
 
@@ -34,7 +33,6 @@ pub turn_carries : {V : Type 0} (stage : Stage) (carried : List (ℕ × Option V
 turn_carries Idle carried t h e = absurd (cc)
 turn_carries (Waits u) carried t h e = absurd (cc)
 turn_carries (Enrols n out) carried t h e = absurd (cc)
-turn_carries Leaves carried t h e = absurd (cc)
 turn_carries Undoes carried t h e = absurd (cc)
 turn_carries Alone carried t h e = absurd (cc)
 turn_carries (Holds u) [] t h e = absurd (cc)
@@ -50,3 +48,9 @@ module _ {I B : Type 0} where
   only_account [] h = absurd (omega arith)
   only_account (a ∷ []) h = (a, refl)
   only_account (a ∷ b ∷ rest) h = absurd (omega arith)
+
+  pub two_accounts : (accounts : List (Account I B)) → length accounts ≡ 2 → (b : Account I B) × (a : Account I B) × (accounts ≡ b ∷ a ∷ [])
+  two_accounts [] h = absurd (omega arith)
+  two_accounts (b ∷ []) h = absurd (omega arith)
+  two_accounts (b ∷ a ∷ []) h = (b, a, refl)
+  two_accounts (c ∷ b ∷ a ∷ rest) h = absurd (omega arith)

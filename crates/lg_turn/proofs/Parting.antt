@@ -1,27 +1,20 @@
--- A pass that is split off another, or taken into another, keeps the rule.
-use Rattle.std.proofs.Common.{◌≡◌, ◌≢◌, ℕ, ◌+◌, ◌<◌, List, [], ◌∷◌, ◌++◌, length, set, arith, ap, sym, refl, subst, ⊎_elim, Option, Bool, true, false, cond}
-use mathlib.Core.Option.{some}
-use lib.ListN.{get_elem?}
+-- A pass that is split off another keeps the rule.
+use Rattle.std.proofs.Common.{◌≡◌, ℕ, ◌+◌, ◌<◌, List, [], ◌∷◌, ◌++◌, set, arith, ap, sym, refl, subst, ⊎_elim, Option, Bool, cond}
 use Rattle.std.specs.Prelude.{◌==◌, nat_lt, if◌then◌else◌}
 use Rattle.std.specs.List.{sum_by}
 use Rattle.std.proofs.lemmas.List.Sums.{sum_by-cons, sum_by_push}
-use Rattle.std.proofs.lemmas.List.Elements.{All-nil, All-cons, All-head, All-tail}
-use Rattle.atomic_table.specs.Table.{State, Splits, Joins}
-use Rattle.atomic_table.proofs.Lists.{at_set, at_snoc}
+use Rattle.std.proofs.lemmas.List.Elements.{All-nil, All-cons, All-head}
+use Rattle.atomic_table.specs.Table.{State, Splits}
+use Rattle.atomic_table.proofs.Lists.{at_snoc}
 use Rattle.lg_turn.specs.declared.view.Account.{Account}
 use Rattle.lg_turn.specs.declared.view.View.{View}
-use Rattle.lg_turn.specs.declared.view.Stage.TheVariants.{Idle, Enrols, Leaves}
-use Rattle.lg_turn.specs.Views.{BeginsWith, account_of, view_of, longer}
+use Rattle.lg_turn.specs.declared.view.Stage.TheVariants.{Idle, Enrols}
+use Rattle.lg_turn.specs.Views.{account_of, view_of}
 use Rattle.lg_turn.specs.Rule.{passes_of, with_number, out_of, undone_of, low_of, values_of, tickets_of, with_ticket, Fits, Knows, IsKept}
-use Rattle.lg_turn.specs.Steps.{kept, enrolled, taken_in, spent}
+use Rattle.lg_turn.specs.Steps.{kept, enrolled}
 use Rattle.lg_turn.proofs.Sums.{sum_by_set, each_set}
 use Rattle.lg_turn.proofs.Counts.{one_low}
 use Rattle.lg_turn.proofs.Dealing.{with_views}
-
--- both are beginnings of the list, whichever is longer
-either_begins : {I : Type 0} (list xs ys : List I) (b : Bool) → BeginsWith list xs → BeginsWith list ys → BeginsWith list (cond b ys xs)
-either_begins list xs ys true x y = y
-either_begins list xs ys false x y = x
 
 module _ {V I B : Type 0} (items : V → List I) (number : I → ℕ) (base : V → B) (callers : ℕ) (origin : B) where
   abbrev Rule : State (Option V) (View I B) → Type 0
@@ -54,30 +47,3 @@ module _ {V I B : Type 0} (items : V → List I) (number : I → ℕ) (base : V 
       (same values_of refl)
       (same tickets_of refl)
       (λ t. same (with_ticket t) refl)
-
-  pub merges : (id other : ℕ) (a b : Account I B) (rest : List (Account I B)) → Joins Rule id (view_of (a ∷ rest) Idle) other (view_of (b ∷ []) Idle) (taken_in (view_of (a ∷ rest) Idle) (view_of (b ∷ []) Idle)) spent
-  merges id other a b rest s k at apart there =
-      let v = view_of (a ∷ rest) Idle in
-      let w = view_of (b ∷ []) Idle in
-      let one_pass = account_of a.number a.base (longer a.seen b.seen) a.own a.asked in
-      let x = view_of (one_pass ∷ rest) Leaves in
-      let P : View I B → Type 0 = Knows items number base origin k.list k.serving in
-      let F : Account I B → Type 0 = Fits items number base origin k.list in
-      let theirs : get_elem? s.views other ≡ some w = ⊎_elim (λ (t : (other ≡ id) × (x ≡ w)). absurd (apart t.0)) (λ (t : (other ≢ id) × (get_elem? s.views other ≡ some w)). t.1) (at_set s.views id other x w there) in
-      let fits = (k.each_pass id v at).fits in
-      let mine = All-head F a rest fits in
-      let your = All-head F b [] (k.each_pass other w theirs).fits in
-      let longest = either_begins k.list a.seen b.seen (nat_lt (length a.seen) (length b.seen)) mine.begins your.begins in
-      let all = All-cons F one_pass rest record { base_is = mine.base_is; begins = longest; own_is = mine.own_is } (All-tail F a rest fits) in
-      let moved : (f : View I B → ℕ) → sum_by f (set (set s.views id x) other spent) + f w + f v ≡ sum_by f s.views + f x + f spent = λ f. omega (arith, sum_by_set f (set s.views id x) other w spent there, sum_by_set f s.views id v x at) in
-      with_views items number base callers origin s k (set (set s.views id x) other spent)
-      (each_set (λ j u. P u) (set s.views id x) other spent record { fits = All-nil F; stands = tt }
-      (λ j u _ f. each_set (λ j u. P u) s.views id x record { fits = all; stands = omega arith } (λ j u _ f. k.each_pass j u f) j u f))
-      (omega (arith, moved (passes_of callers)))
-      (λ n. let one : Account I B → ℕ = λ c. if c.number == n then 1 else 0 in omega (arith, moved (with_number n), sum_by-cons one one_pass rest, sum_by-cons one a rest))
-      (omega (arith, moved out_of))
-      (omega (arith, moved undone_of))
-      (let one : Account I B → ℕ = λ c. if nat_lt c.number callers then 1 else 0 in omega (arith, moved (low_of callers), sum_by-cons one one_pass rest, sum_by-cons one a rest))
-      (omega (arith, moved values_of))
-      (omega (arith, moved tickets_of))
-      (λ t. omega (arith, moved (with_ticket t)))

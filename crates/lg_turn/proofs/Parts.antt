@@ -9,7 +9,7 @@ use Rattle.std.proofs.lemmas.List.Elements.{All-append}
 use Rattle.lg_turn.specs.declared.view.Account.{Account}
 use Rattle.lg_turn.specs.declared.view.View.{View}
 use Rattle.lg_turn.specs.declared.view.Stage.{Stage}
-use Rattle.lg_turn.specs.declared.view.Stage.TheVariants.{Idle, Waits, Holds, Enrols, Leaves, Undoes, Alone}
+use Rattle.lg_turn.specs.declared.view.Stage.TheVariants.{Idle, Waits, Holds, Enrols, Undoes, Alone}
 use Rattle.lg_turn.specs.Rule.{passes_of, with_number, out_of, undone_of, low_of, low_count, place_count, Roll}
 use Rattle.lg_turn.specs.Steps.{spent}
 use Rattle.lg_turn.proofs.Sums.{sum_by_set, sum_by-le-sum_by}
@@ -73,7 +73,6 @@ low-le-place callers Idle = omega arith
 low-le-place callers (Waits t) = omega arith
 low-le-place callers (Holds t) = omega arith
 low-le-place callers (Enrols n out) = both-le-second (nat_lt n callers) (nat_lt out callers)
-low-le-place callers Leaves = omega arith
 low-le-place callers Undoes = omega arith
 low-le-place callers Alone = omega arith
 

@@ -7,7 +7,7 @@ use Rattle.atomic_table.specs.Table.{State, step, keeps, stepped, Allows}
 use Rattle.lg_turn.specs.declared.view.Account.{Account}
 use Rattle.lg_turn.specs.declared.view.View.{View}
 use Rattle.lg_turn.specs.declared.view.Stage.{Stage}
-use Rattle.lg_turn.specs.declared.view.Stage.TheVariants.{Idle, Waits, Holds, Enrols, Leaves, Undoes, Alone}
+use Rattle.lg_turn.specs.declared.view.Stage.TheVariants.{Idle, Waits, Holds, Enrols, Undoes, Alone}
 use Rattle.lg_turn.specs.Views.{view_of}
 use Rattle.lg_turn.specs.Rule.{passes_of, with_number, low_of, out_of, undone_of, ticket_count, same_ticket, value_count, out_count, undone_count, Roll, IsKept}
 use Rattle.lg_turn.specs.Steps.{Releases}
@@ -21,7 +21,6 @@ quiet Idle h = absurd (omega arith)
 quiet (Waits t) h = absurd (omega arith)
 quiet (Holds t) h = absurd (omega arith)
 quiet (Enrols n out) h = (refl, (λ t. refl), refl)
-quiet Leaves h = (refl, (λ t. refl), refl)
 quiet Undoes h = (refl, (λ t. refl), refl)
 quiet Alone h = absurd (omega arith)
 

@@ -11,7 +11,7 @@ use Rattle.atomic_table.specs.Table.{State}
 use Rattle.lg_turn.specs.declared.view.Account.{Account}
 use Rattle.lg_turn.specs.declared.view.View.{View}
 use Rattle.lg_turn.specs.declared.view.Stage.{Stage}
-use Rattle.lg_turn.specs.declared.view.Stage.TheVariants.{Idle, Waits, Holds, Enrols, Leaves, Undoes, Alone}
+use Rattle.lg_turn.specs.declared.view.Stage.TheVariants.{Idle, Waits, Holds, Enrols, Undoes, Alone}
 use Rattle.lg_turn.specs.Views.{view_of, drawn_in, out_in}
 use Rattle.lg_turn.specs.Rule.{passes_of, out_of, undone_of, out_count, undone_count, place_count, Stands, IsKept}
 use Rattle.lg_turn.proofs.Sums.{part-le-sum_by, two_parts-le-sum_by, some_part, sum_by-le-sum_by}
@@ -33,7 +33,6 @@ alone_count Idle = 0
 alone_count (Waits t) = 0
 alone_count (Holds t) = 0
 alone_count (Enrols n out) = 0
-alone_count Leaves = 0
 alone_count Undoes = 0
 alone_count Alone = 1
 
@@ -46,7 +45,6 @@ place-le-out callers Idle h = omega arith
 place-le-out callers (Waits t) h = omega arith
 place-le-out callers (Holds t) h = omega arith
 place-le-out callers (Enrols n out) h = bit-le-one (nat_lt out callers)
-place-le-out callers Leaves h = omega arith
 place-le-out callers Undoes h = omega arith
 place-le-out callers Alone h = absurd (omega arith)
 
@@ -57,7 +55,6 @@ module _ {V I B : Type 0} (items : V → List I) (number : I → ℕ) (base : V 
   out-le-length list serving accounts (Waits t) h = (omega arith, omega arith)
   out-le-length list serving accounts (Holds t) h = (omega arith, omega arith)
   out-le-length list serving accounts (Enrols n out) h = let some = h.0 in (omega arith, omega arith)
-  out-le-length list serving accounts Leaves h = (omega arith, omega arith)
   out-le-length list serving accounts Undoes h = (omega arith, omega arith)
   out-le-length list serving accounts Alone h = (omega arith, omega arith)
 
@@ -67,7 +64,6 @@ module _ {V I B : Type 0} (items : V → List I) (number : I → ℕ) (base : V 
   alone_is_full callers list serving accounts (Waits t) h is = absurd (omega arith)
   alone_is_full callers list serving accounts (Holds t) h is = absurd (omega arith)
   alone_is_full callers list serving accounts (Enrols n out) h is = absurd (omega arith)
-  alone_is_full callers list serving accounts Leaves h is = absurd (omega arith)
   alone_is_full callers list serving accounts Undoes h is = absurd (omega arith)
   alone_is_full callers list serving accounts Alone h is = omega arith
 

@@ -8,7 +8,7 @@ use Rattle.atomic_table.specs.Table.{State}
 use Rattle.lg_turn.specs.declared.view.Account.{Account}
 use Rattle.lg_turn.specs.declared.view.View.{View}
 use Rattle.lg_turn.specs.declared.view.Stage.{Stage}
-use Rattle.lg_turn.specs.declared.view.Stage.TheVariants.{Idle, Waits, Holds, Enrols, Leaves, Undoes, Alone}
+use Rattle.lg_turn.specs.declared.view.Stage.TheVariants.{Idle, Waits, Holds, Enrols, Undoes, Alone}
 use Rattle.lg_turn.specs.Views.{BeginsWith, of_pass, seen_in}
 
 -- 1 for a stage with a ticket out
@@ -17,7 +17,6 @@ ticket_count Idle = 0
 ticket_count (Waits t) = 1
 ticket_count (Holds t) = 1
 ticket_count (Enrols n out) = 0
-ticket_count Leaves = 0
 ticket_count Undoes = 0
 ticket_count Alone = 0
 
@@ -27,7 +26,6 @@ same_ticket t Idle = 0
 same_ticket t (Waits u) = (if t == u then 1 else 0)
 same_ticket t (Holds u) = (if t == u then 1 else 0)
 same_ticket t (Enrols n out) = 0
-same_ticket t Leaves = 0
 same_ticket t Undoes = 0
 same_ticket t Alone = 0
 
@@ -37,7 +35,6 @@ value_count Idle = 0
 value_count (Waits t) = 0
 value_count (Holds t) = 1
 value_count (Enrols n out) = 0
-value_count Leaves = 0
 value_count Undoes = 0
 value_count Alone = 0
 
@@ -47,7 +44,6 @@ out_count Idle = 0
 out_count (Waits t) = 0
 out_count (Holds t) = 0
 out_count (Enrols n out) = 1
-out_count Leaves = 1
 out_count Undoes = 1
 out_count Alone = 0
 
@@ -57,7 +53,6 @@ undone_count Idle = 0
 undone_count (Waits t) = 0
 undone_count (Holds t) = 0
 undone_count (Enrols n out) = 0
-undone_count Leaves = 0
 undone_count Undoes = 1
 undone_count Alone = 0
 
@@ -67,7 +62,6 @@ place_count callers Idle = 0
 place_count callers (Waits t) = 0
 place_count callers (Holds t) = 0
 place_count callers (Enrols n out) = (if nat_lt out callers then 1 else 0)
-place_count callers Leaves = 0
 place_count callers Undoes = 0
 place_count callers Alone = callers - 1
 
@@ -77,7 +71,6 @@ same_number n Idle = 0
 same_number n (Waits t) = 0
 same_number n (Holds t) = 0
 same_number n (Enrols m out) = (if m == n then 1 else 0)
-same_number n Leaves = 0
 same_number n Undoes = 0
 same_number n Alone = 0
 
@@ -87,7 +80,6 @@ low_count callers Idle = 0
 low_count callers (Waits t) = 0
 low_count callers (Holds t) = 0
 low_count callers (Enrols n out) = (if nat_lt n callers then (if nat_lt out callers then 1 else 0) else 0)
-low_count callers Leaves = 0
 low_count callers Undoes = 0
 low_count callers Alone = 0
 
@@ -133,7 +125,6 @@ module _ {V I B : Type 0} (items : V → List I) (number : I → ℕ) (base : V 
   Stands list serving accounts (Waits t) = 0 < length accounts
   Stands list serving accounts (Holds t) = (0 < length accounts) × (t ≡ serving) × (seen_in accounts ≡ list)
   Stands list serving accounts (Enrols n out) = (0 < length accounts) × (of_pass number n list ≡ [])
-  Stands list serving accounts Leaves = 0 < length accounts
   Stands list serving accounts Undoes = 0 < length accounts
   Stands list serving accounts Alone = 0 < length accounts
 

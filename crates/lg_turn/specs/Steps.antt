@@ -4,9 +4,9 @@ use Rattle.std.specs.List.{range_with_len}
 use Rattle.atomic_table.specs.Table.{Me, Step}
 use Rattle.lg_turn.specs.declared.view.Account.{Account}
 use Rattle.lg_turn.specs.declared.view.View.{View}
-use Rattle.lg_turn.specs.declared.view.Stage.TheVariants.{Idle, Waits, Holds, Enrols, Leaves, Undoes, Alone}
+use Rattle.lg_turn.specs.declared.view.Stage.TheVariants.{Idle, Waits, Holds, Enrols, Undoes, Alone}
 use Rattle.lg_turn.specs.declared.view.Stage.{Stage}
-use Rattle.lg_turn.specs.Views.{account_of, blank, first_of, others_of, number_in, view_of, drawn_in, out_in, longer}
+use Rattle.lg_turn.specs.Views.{account_of, blank, first_of, others_of, number_in, seen_in, BeginsWith, view_of, drawn_in, out_in, longer}
 use Rattle.lg_turn.specs.Rule.{Fits}
 
 module _ {I B : Type 0} where
@@ -47,7 +47,6 @@ module _ {I B : Type 0} where
   newcomer (a ∷ rest) (Waits t) = []
   newcomer (a ∷ rest) (Holds t) = []
   newcomer (a ∷ rest) (Enrols n out) = account_of n a.base a.seen [] [] ∷ []
-  newcomer (a ∷ rest) Leaves = []
   newcomer (a ∷ rest) Undoes = []
   newcomer (a ∷ rest) Alone = []
 
@@ -58,15 +57,16 @@ module _ {I B : Type 0} where
   abbrev pub enrolled : View I B → View I B
   enrolled v = view_of (newcomer v.accounts v.stage) Idle
 
-  -- the accounts of two passes made one, with the longer of what they have seen
+  -- the account of a pass that has seen what another has too
   abbrev pub merged : List (Account I B) → List (Account I B) → List (Account I B)
   merged [] others = []
   merged (a ∷ rest) [] = a ∷ rest
   merged (a ∷ rest) (b ∷ more) = account_of a.number a.base (longer a.seen b.seen) a.own a.asked ∷ rest
 
-  -- one pass in place of two, and a place too many in the roll
-  abbrev pub taken_in : View I B → View I B → View I B
-  taken_in v w = view_of (merged v.accounts w.accounts) Leaves
+  -- of the accounts of two passes, the second one's with what both have seen
+  abbrev pub absorbed : List (Account I B) → List (Account I B)
+  absorbed [] = []
+  absorbed (b ∷ rest) = merged rest (b ∷ [])
 
 module _ {V I B : Type 0} where
   -- a ticket was drawn, of which these are the lower bits
@@ -93,6 +93,12 @@ module _ {V I B : Type 0} where
   -- the roll is right again
   abbrev pub Releases : Step (Option V) → Me (Option V) (View I B) → ℕ → Me (Option V) (View I B) → Type 0
   Releases st me found me' = me' ≡ (view_of me.0.accounts Idle, me.1)
+
+  -- the one of two passes is gone, and the other has seen the longer of what they had, which begins with both
+  abbrev pub Absorbs : Step (Option V) → Me (Option V) (View I B) → ℕ → Me (Option V) (View I B) → Type 0
+  Absorbs st me found me' =
+      (me' ≡ (view_of (absorbed me.0.accounts) Idle, me.1))
+      × All (λ (a : Account I B). BeginsWith (seen_in me'.0.accounts) a.seen) me.0.accounts
 
   -- one pass is out, which is this one, or more
   abbrev pub HasCounted : Me (Option V) (View I B) → ℕ → Me (Option V) (View I B) → Type 0

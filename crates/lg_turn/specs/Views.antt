@@ -4,7 +4,7 @@ use Rattle.atomic_table.specs.Table.{Me}
 use Rattle.lg_turn.specs.declared.view.Account.{Account}
 use Rattle.lg_turn.specs.declared.view.View.{View}
 use Rattle.lg_turn.specs.declared.view.Stage.{Stage}
-use Rattle.lg_turn.specs.declared.view.Stage.TheVariants.{Idle, Waits, Holds, Enrols, Leaves, Undoes, Alone}
+use Rattle.lg_turn.specs.declared.view.Stage.TheVariants.{Idle, Waits, Holds, Enrols, Undoes, Alone}
 
 -- how many numbers were drawn before, in a word of the roll
 abbrev pub drawn_in : ℕ → ℕ
@@ -82,7 +82,6 @@ is_settled_at Idle carried = has_no_slot carried
 is_settled_at (Waits t) carried = false
 is_settled_at (Holds t) carried = has_empty_slot carried
 is_settled_at (Enrols n out) carried = false
-is_settled_at Leaves carried = false
 is_settled_at Undoes carried = false
 is_settled_at Alone carried = false
 

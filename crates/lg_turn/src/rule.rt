@@ -1,6 +1,6 @@
 //! The rule of the table under a turn, and its steps.
 ghost use Rattle.lg_turn.specs.Rule.{IsKept};
-ghost use Rattle.lg_turn.specs.Steps.{beginning, Draws, Looks, Advances, Enrolls, Releases, Counts, cut_off, left_over, kept, enrolled, put_together, taken_in, spent};
+ghost use Rattle.lg_turn.specs.Steps.{beginning, Draws, Looks, Advances, Enrolls, Releases, Absorbs, Counts, cut_off, left_over, kept, enrolled, put_together, spent};
 
 use crate::keeps::Keeps;
 use crate::view::View;
@@ -55,6 +55,12 @@ impl<V: Keeps> Play<Option<V>, View<V::Item, V::Base>> for Release {
     ghost then = { Releases };
 }
 
+pub struct Absorb;
+
+impl<V: Keeps> Play<Option<V>, View<V::Item, V::Base>> for Absorb {
+    ghost then = { Absorbs };
+}
+
 pub struct Count;
 
 impl<V: Keeps> Play<Option<V>, View<V::Item, V::Base>> for Count {
@@ -86,13 +92,4 @@ impl<I, B> Split<View<I, B>> for Part {
     ghost left = { kept };
 
     ghost right = { enrolled };
-}
-
-/// Takes one pass into another.
-pub struct Merge;
-
-impl<I, B> Join<View<I, B>> for Merge {
-    ghost both = { taken_in };
-
-    ghost spent = { spent };
 }

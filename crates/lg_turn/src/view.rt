@@ -14,14 +14,12 @@ pub struct Account<I, B> {
 
 /// Where a pass stands: away from the turn, waiting with a ticket, or with the value out under a ticket. In proofs a
 /// ticket counts without bound. Within one call a pass may also enrol another one, for which it has drawn a number and
-/// before which so many passes were out; leave a place that it counts for; undo a number and a place; or know that it
-/// is alone.
+/// before which so many passes were out; undo a number and a place; or know that it is alone.
 pub enum Stage {
     Idle,
     Waits(u64),
     Holds(u64),
     Enrols(u64, u64),
-    Leaves,
     Undoes,
     Alone,
 }
