@@ -1,5 +1,7 @@
 use crate::{batch_id, task_id};
 use lg_base::{Name, TaskId, Text};
+use lg_json::Fields;
+use serde_json::Value;
 use std::alloc::Global;
 use std::test::Fail;
 
@@ -95,5 +97,17 @@ fn batch_ids_are_those_of_luigi(rt: HostRuntime) -> Result<(), Fail> {
             "{expected}"
         );
     }
+    Ok(())
+}
+
+// The fields of the worked example that ends with the batch of `d1` and `d2`.
+#[test]
+fn fields_of_the_example_are_taken(rt: HostRuntime) -> Result<(), Fail> {
+    let alloc = rt.alloc();
+    let mut fields = Fields::from_value(Value::from_str(alloc, "{\"b\":1,\"a\":2}")?)?;
+    assert!(rt; matches!(&fields.take_amounts(alloc, "r"), Ok(None)));
+    let (name, value) = fields.take_first().expect(&rt, "a field");
+    assert_eq!(rt; name.as_str(), "a");
+    assert_eq!(rt; value.as_u64(), Some(2));
     Ok(())
 }
