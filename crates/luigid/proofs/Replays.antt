@@ -1,33 +1,60 @@
 -- A journal that goes on by one entry.
-use Rattle.std.proofs.Common.{◌≡◌, ◌+◌, List, [], ◌∷◌, ◌++◌, length, take, refl, sym, ◌∙◌, ap, arith, Some}
-use Rattle.std.proofs.lemmas.Grind.{common_steps}
-use Rattle.std.specs.Prelude.{slice_get}
+use Rattle.std.proofs.Common.{◌≡◌, ℕ, List, [], ◌∷◌, ◌++◌, map, filter, refl, sym, ◌∙◌, ap, append_assoc, eq-eqb}
+use Rattle.std.proofs.lemmas.Grind.{map-append}
+use Rattle.std.proofs.lemmas.List.{append-nil}
+use Rattle.std.proofs.lemmas.List.Elements.{filter-append}
+use Rattle.std.proofs.lemmas.List.Sums.{fold_push}
+use Rattle.std.specs.Prelude.{fold, ◌==◌}
 use Rattle.luigid.specs.declared.journal.Entry.{Entry}
 use Rattle.luigid.specs.declared.state.State.{State}
-use Rattle.luigid.specs.Replay.{replay, reply_at}
+use Rattle.luigid.specs.Journal.{is_over}
+use Rattle.luigid.specs.Replay.{Answered, Replayed, entered, replayed, replay, answered, made_by}
 use Rattle.luigid.specs.Step.{step}
+
+-- what the scheduler answers to one more entry
+abbrev pub answer_to : State → List Entry → Entry → Answered
+answer_to base journal e =
+    record { entry = e; reply = (step (replay base journal) e.now.0 e.request).1; over = is_over (journal ++ e ∷ []) }
+
+replayed-push : (base : State) (journal : List Entry) (e : Entry) → replayed base (journal ++ e ∷ []) ≡ entered (replayed base journal) e
+replayed-push base journal e = fold_push entered _ journal e
+
+-- entries that are replayed on stand behind those before
+journal-from : (r : Replayed) (journal : List Entry) → (fold entered r journal).journal ≡ r.journal ++ journal
+journal-from r [] = sym (append-nil r.journal)
+journal-from r (e ∷ journal) = journal-from (entered r e) journal ∙ append_assoc r.journal (e ∷ []) journal
+
+-- and so are they told
+told-from : (r : Replayed) (journal : List Entry) → map (λ (a : Answered). a.entry) (fold entered r journal).answered ≡ map (λ (a : Answered). a.entry) r.answered ++ journal
+told-from r [] = sym (append-nil _)
+told-from r (e ∷ journal) =
+    told-from (entered r e) journal ∙ ap (λ front. front ++ journal) (map-append (λ (a : Answered). a.entry) r.answered (_ ∷ []))
+    ∙ append_assoc (map (λ (a : Answered). a.entry) r.answered) (e ∷ []) journal
 
 -- the state behind one more entry
 pub replay-push : (base : State) (journal : List Entry) (e : Entry) → replay base (journal ++ e ∷ []) ≡ (step (replay base journal) e.now.0 e.request).0
-replay-push base [] e = refl
-replay-push base (first ∷ journal) e = replay-push (step base first.now.0 first.request).0 journal e
+replay-push base journal e = ap (λ (r : Replayed). r.state) (replayed-push base journal e)
 
--- the newest entry stands at the end
-pub newest_stands : {A : Type 0} → (xs : List A) (x : A) → slice_get (xs ++ x ∷ []) (length xs) ≡ Some x
-newest_stands [] x = refl
-newest_stands (first ∷ xs) x = newest_stands xs x
+-- the answers to one more entry
+pub answered-push : (base : State) (journal : List Entry) (e : Entry) → answered base (journal ++ e ∷ []) ≡ answered base journal ++ answer_to base journal e ∷ []
+answered-push base journal e =
+    ap (λ (r : Replayed). r.answered) (replayed-push base journal e)
+    ∙ ap (λ (front : List Entry). answered base journal ++ record { entry = e; reply = (step (replay base journal) e.now.0 e.request).1; over = is_over (front ++ e ∷ []) } ∷ [])
+    (journal-from (record { state = base; journal = []; answered = [] }) journal)
 
--- and those before it are as they were
-pub front_stays : {A : Type 0} → (xs : List A) (x : A) → take (length xs) (xs ++ x ∷ []) ≡ xs
-front_stays xs x = grind (arith, common_steps)
+-- the entries with their answers are the journal's
+pub entries_answered : (base : State) (journal : List Entry) → map (λ (a : Answered). a.entry) (answered base journal) ≡ journal
+entries_answered base journal = told-from (record { state = base; journal = []; answered = [] }) journal
 
--- the reply to it
-pub reply_at-newest : (base : State) (journal : List Entry) (e : Entry) → reply_at base (journal ++ e ∷ []) (length journal) ≡ Some (step (replay base journal) e.now.0 e.request).1
-reply_at-newest base journal e = rw (newest_stands journal e, front_stays journal e) refl
+kept_made : (pass : ℕ) (a : Answered) → a.entry.pass ≡ pass → filter (λ (a : Answered). a.entry.pass == pass) (a ∷ []) ≡ a ∷ []
+kept_made pass a is = rw (eq-eqb a.entry.pass pass is) refl
 
--- the front with the newest entry is all of it
-pub with_newest : {A : Type 0} → (xs : List A) (x : A) → take (length xs + 1) (xs ++ x ∷ []) ≡ xs ++ x ∷ []
-with_newest xs x = grind (arith, common_steps)
+-- a pass made one more entry
+pub made-push : (base : State) (pass : ℕ) (journal : List Entry) (e : Entry) → e.pass ≡ pass
+    → made_by pass (answered base (journal ++ e ∷ [])) ≡ made_by pass (answered base journal) ++ answer_to base journal e ∷ []
+made-push base pass journal e is =
+    ap (made_by pass) (answered-push base journal e) ∙ filter-append (λ (a : Answered). a.entry.pass == pass) (answered base journal) (answer_to base journal e ∷ [])
+    ∙ ap (λ last. made_by pass (answered base journal) ++ last) (kept_made pass (answer_to base journal e) is)
 
 -- the state behind a journal is behind the journal with one more entry after one more step
 pub replayed_on : (base old new : State) (journal entered : List Entry) (e : Entry)

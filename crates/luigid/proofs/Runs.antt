@@ -1,6 +1,8 @@
 -- What a run of the daemon comes to, from its parts.
-use Rattle.std.proofs.Common.{◌≡◌, ◌≢◌, ℕ, ◌<◌, ◌≤◌, List, [], ◌∷◌, map, length, get_or, refl, sym, ◌∙◌, subst, arith, Option, Some, None, inr}
+use Rattle.std.proofs.Common.{◌≡◌, ◌≢◌, ℕ, ◌<◌, ◌≤◌, List, [], ◌∷◌, map, length, get_or, refl, sym, ◌∙◌, subst, arith, All, Option, Some, None, IfSome, option_map, inr}
 use Rattle.std.proofs.Math.ListN.{set}
+use Rattle.lg_io.specs.Clock.{ClockCall}
+use Rattle.lg_io.specs.Door.{DoorTold, DoorSeen, unused_door}
 use Rattle.lg_io.specs.Net.{BindCall}
 use Rattle.lg_io.specs.Tells.{TellsOn}
 use Rattle.luigid.specs.declared.audit.LifeEnd.{LifeEnd}
@@ -12,7 +14,8 @@ use Rattle.luigid.specs.declared.state.State.{State}
 use Rattle.luigid.specs.Audit.{LifeTold, EndsLife}
 use Rattle.luigid.specs.State.{empty_state}
 use Rattle.luigid.proofs.Audits.{told_whole}
-use Rattle.luigid.specs.Headline.{EndsBy, HasLane, DoorSeen, Outside, IsRun, IsLine, IsServedLife, ServedLife, HasBinding, exit_of, the_bind}
+use Rattle.luigid.specs.Headline.{EndsBy, HasLane, Outside, IsRun, IsLine, IsUntouched, IsServedLife, ServedLife, HasBinding, exit_of, the_bind, unused}
+use Rattle.luigid.specs.Journal.{NoneBehindEnd}
 
 -- a list of one item
 pub only_item : {A : Type 0} (xs : List A) (d : A) → 1 ≤ length xs → length xs < 2 → xs ≡ get_or xs 0 d ∷ []
@@ -43,25 +46,55 @@ binding_of old new Memory told = inr told
 
 -- a run that served a life
 pub run_served : (words : List (List ℕ)) (before after : Outside) (door : DoorSeen) (life : ServedLife) (exit : Exit)
-    → IsLine words → TellsOn before.binds after.binds (the_bind ∷ []) → (¬ (before.bind_faults < after.bind_faults))
+    → IsLine words → TellsOn before.binds after.binds (the_bind ∷ []) → before.bind_faults ≤ after.bind_faults → (¬ (before.bind_faults < after.bind_faults))
     → after.doors ≡ door ∷ [] → IsServedLife before.lives after.lives door life → exit ≡ exit_of life.end
     → IsRun words before after exit
-run_served words before after door life exit line told no_fault one_door served exit_is = record {
+run_served words before after door life exit line told never_falls no_fault one_door served exit_is = record {
   line = ((λ bad. absurd ((ends_life life.end).0 (sym exit_is ∙ bad))), (λ not_line. absurd (not_line line)));
   binding = subst (HasBinding before.binds after.binds) (sym exit_is) (binding_of before.binds after.binds life.end told);
   cannot_listen = ((λ failed. absurd ((ends_life life.end).1 (sym exit_is ∙ failed))), (λ rose. absurd (no_fault rose)));
+  never_falls = never_falls;
   life = Some life;
-  lives = record { door = door; one_door = one_door; served = served; exit_is = exit_is };
+  lives = record { bound = told; door = door; one_door = one_door; served = served; exit_is = exit_is };
 }
 
+-- what an untouched door told, if its lane goes on telling
+lane_of_unused : (base : State) (journal : List Entry) (end : LifeEnd) (first now : Option DoorTold) (before calls : Option (List ClockCall))
+    → IfSome first (λ told. told ≡ unused_door) → IfSome before (λ c. c ≡ [])
+    → HasLane base 0 end journal (record { door = first; calls = before }) (record { door = now; calls = calls })
+    → HasLane base 0 end journal (unused (record { door = now; calls = calls })) (record { door = now; calls = calls })
+lane_of_unused base journal end None now before calls was none lane = rw lane refl
+lane_of_unused base journal end (Some old) now before calls was none lane =
+    let told : now ≡ Some lane.new = lane.tells in
+    rw told (record {
+      new = lane.new;
+      tells = refl;
+      sessions = lane.sessions;
+      is_lane = record {
+        links = rw (← was) lane.is_lane.links;
+        all_back = rw (← was) lane.is_lane.all_back;
+        served = lane.is_lane.served;
+        made = lane.is_lane.made;
+        read = read_since before calls _ none lane.is_lane.read;
+        none_behind = lane.is_lane.none_behind;
+      };
+      last = lane.last;
+    }) where
+  read_since : (before calls : Option (List ClockCall)) (items : List ClockCall) → IfSome before (λ c. c ≡ []) → TellsOn before calls items → TellsOn (option_map (λ _. []) calls) calls items
+  read_since before None items none read = tt
+  read_since None (Some new) items none read = absurd read
+  read_since (Some c) (Some new) items none read = rw none at read
+
 -- a life that was told from its beginning to its end was served
-pub served_life : (base : State) (journal handed : List Entry) (end : LifeEnd) (door : DoorSeen) (before during after : Option (List LifeTold))
+pub served_life : (base : State) (journal handed : List Entry) (end : LifeEnd) (began door : DoorSeen) (before during after : Option (List LifeTold))
     → base ≡ empty_state → handed ≡ journal
     → TellsOn before during (record { base = base; end = None } ∷ []) → EndsLife handed end during after
-    → EndsBy end journal → HasLane base 0 end journal door.door door.calls
+    → EndsBy end journal → NoneBehindEnd handed → All (λ (e : Entry). e.pass ≡ 0) journal → IsUntouched began → HasLane base 0 end journal began door
     → IsServedLife before after door (record { journal = handed; end = end })
-served_life base journal handed end door before during after base_is handed_is begun ended ends lane = record {
+served_life base journal handed end began door before during after base_is handed_is begun ended ends none_behind alone untouched lane = record {
   audited = subst (λ state. TellsOn before after (record { base = state; end = Some (handed, end) } ∷ [])) base_is (told_whole base handed end before during after begun ended);
   ends = rw handed_is ends;
-  lane = rw (← base_is, handed_is) lane;
+  none_behind = none_behind;
+  no_other = rw handed_is alone;
+  lane = rw (← base_is, handed_is) (lane_of_unused base journal end began.door door.door began.calls door.calls untouched.unused untouched.uncalled lane);
 }

@@ -1,8 +1,7 @@
 -- The headline: what a run of the daemon is, for every list of words and every behaviour of the outside. This project's
 -- own.
-use Rattle.std.specs.Prelude.{◌≡◌, ℕ, ◌<◌, ◌↔◌, ◌⊎◌, true, false, List, [], ◌∷◌, ◌++◌, All, codes, Option, Some, None, IfSome}
-use Rattle.lg_io.specs.Clock.{ClockCall}
-use Rattle.lg_io.specs.Door.{DoorTold, closed, failed, no_memory, unused_door}
+use Rattle.std.specs.Prelude.{◌≡◌, ℕ, ◌<◌, ◌≤◌, ◌↔◌, ◌⊎◌, true, false, List, [], ◌∷◌, ◌++◌, All, codes, Option, Some, None, IfSome, MatchOption, option_map}
+use Rattle.lg_io.specs.Door.{DoorTold, DoorSeen, conn, closed, failed, no_memory, unused_door}
 use Rattle.lg_io.specs.Net.{BindCall}
 use Rattle.lg_io.specs.Sink.{Takes, IsPrefix}
 use Rattle.lg_io.specs.Tells.{TellsOn}
@@ -12,21 +11,20 @@ use Rattle.luigid.specs.declared.journal.Entry.{Entry}
 use Rattle.luigid.specs.declared.exit.Exit.{Exit}
 use Rattle.luigid.specs.declared.exit.Exit.TheVariants.{Served, BadWords, CannotListen, DoorsFailed, JournalFull, NoMemory}
 use Rattle.luigid.specs.Audit.{LifeTold}
-use Rattle.luigid.specs.Journal.{has_stop, is_full, is_over}
+use Rattle.luigid.specs.Journal.{has_stop, is_full, is_over, NoneBehindEnd}
 use Rattle.luigid.specs.Lane.{IsLane}
 use Rattle.luigid.specs.Session.{Session}
 use Rattle.luigid.specs.State.{empty_state}
 use Rattle.luigid.specs.declared.state.State.{State}
 
--- what a door and its clock tell
-pub record DoorSeen : Type 0 where
-  pub door : Option DoorTold
-  pub calls : Option (List ClockCall)
-
 -- nobody called the door or its clock
 pub record IsUntouched (seen : DoorSeen) : Type 0 where
   pub unused : IfSome seen.door (λ told. told ≡ unused_door)
   pub uncalled : IfSome seen.calls (λ calls. calls ≡ [])
+
+-- what a door and its clock told when the door was bound, if they tell
+abbrev pub unused : DoorSeen → DoorSeen
+unused seen = record { door = option_map (λ _. unused_door) seen.door; calls = option_map (λ _. []) seen.calls }
 
 -- what the outside tells: the calls of `bind` and how many of them failed, the doors that were bound, and the lives
 pub record Outside : Type 0 where
@@ -51,18 +49,27 @@ EndsBy Closed journal = is_over journal ≡ false
 EndsBy Doors journal = is_over journal ≡ false
 EndsBy Memory journal = is_over journal ≡ false
 
--- what the door's last answer says of it, where the journal isn't over
+-- The door's last answer. Where the journal is over it handed out the link behind which the life ended.
 abbrev pub HasLast : LifeEnd → DoorTold → Type 0
-HasLast Stop door = Unit {0}
-HasLast Full door = Unit {0}
+HasLast Stop door = door.last ≡ Some conn
+HasLast Full door = door.last ≡ Some conn
 HasLast Closed door = door.last ≡ Some closed
 HasLast Doors door = door.last ≡ Some failed
 HasLast Memory door = door.last ≡ Some no_memory
 
--- Where the door tells, its connections are served as they are to be, and its last answer is the cause of the end.
-abbrev pub HasLane : State → ℕ → LifeEnd → List Entry → Option DoorTold → Option (List ClockCall) → Type 0
-HasLane base lane end journal door calls =
-    IfSome door (λ told. (sessions : List Session) × IsLane base journal lane told calls sessions × HasLast end told)
+-- a door that tells went on telling, its connections were served as they are to be, and its last answer is the cause of
+-- the end
+pub record HasConnections (base : State) (lane : ℕ) (end : LifeEnd) (journal : List Entry) (old : DoorTold) (before after : DoorSeen) : Type 0 where
+  pub new : DoorTold
+  pub tells : after.door ≡ Some new
+  pub sessions : List Session
+  pub is_lane : IsLane base journal lane old new before.calls after.calls sessions
+  pub last : HasLast end new
+
+-- what a lane did with its door, where the door tells
+abbrev pub HasLane : State → ℕ → LifeEnd → List Entry → DoorSeen → DoorSeen → Type 0
+HasLane base lane end journal before after =
+    MatchOption before.door (after.door ≡ None) (λ old. HasConnections base lane end journal old before after)
 
 -- the program's end for a life's
 abbrev pub exit_of : LifeEnd → Exit
@@ -77,30 +84,34 @@ pub record ServedLife : Type 0 where
   pub journal : List Entry
   pub end : LifeEnd
 
--- A life was served over one door: the audit is told of it, with the empty state as its base; it ended for a cause; and
--- the door's connections are served as they are to be.
+-- A life was served over one door: the audit is told of it, with the empty state as its base; it ended for a cause, and
+-- nothing was entered behind it; the door's one lane entered its calls, and there are no others; and its connections are
+-- served as they are to be.
 pub record IsServedLife (before after : Option (List LifeTold)) (door : DoorSeen) (life : ServedLife) : Type 0 where
   pub audited : TellsOn before after (record { base = empty_state; end = Some (life.journal, life.end) } ∷ [])
   pub ends : EndsBy life.end life.journal
-  pub lane : HasLane empty_state 0 life.end life.journal door.door door.calls
+  pub none_behind : NoneBehindEnd life.journal
+  pub no_other : All (λ e. e.pass ≡ 0) life.journal
+  pub lane : HasLane empty_state 0 life.end life.journal (unused door) door
 
 -- One life was served, over the one door that was bound; and the program ended as the life did.
-pub record IsOneLife (before after : Option (List LifeTold)) (doors : List DoorSeen) (exit : Exit) (life : ServedLife) : Type 0 where
+pub record IsOneLife (before after : Outside) (exit : Exit) (life : ServedLife) : Type 0 where
+  pub bound : TellsOn before.binds after.binds (the_bind ∷ [])
   pub door : DoorSeen
-  pub one_door : doors ≡ door ∷ []
-  pub served : IsServedLife before after door life
+  pub one_door : after.doors ≡ door ∷ []
+  pub served : IsServedLife before.lives after.lives door life
   pub exit_is : exit ≡ exit_of life.end
 
 -- No life began: the words were bad, the door wasn't bound, or memory ran out; and no door was called.
-pub record IsWithoutLife (before after : Option (List LifeTold)) (doors : List DoorSeen) (exit : Exit) : Type 0 where
-  pub no_lives : after ≡ before
-  pub untouched : All IsUntouched doors
+pub record IsWithoutLife (before after : Outside) (exit : Exit) : Type 0 where
+  pub no_lives : after.lives ≡ before.lives
+  pub untouched : All IsUntouched after.doors
   pub exit_is : (exit ≡ BadWords) ⊎ (exit ≡ CannotListen) ⊎ (exit ≡ NoMemory)
 
 -- the lives of a run: none, or one
-abbrev pub HasLives : Option (List LifeTold) → Option (List LifeTold) → List DoorSeen → Exit → Option ServedLife → Type 0
-HasLives before after doors exit None = IsWithoutLife before after doors exit
-HasLives before after doors exit (Some life) = IsOneLife before after doors exit life
+abbrev pub HasLives : Outside → Outside → Exit → Option ServedLife → Type 0
+HasLives before after exit None = IsWithoutLife before after exit
+HasLives before after exit (Some life) = IsOneLife before after exit life
 
 -- Bad words bind nothing. Memory may run out before the call or after it.
 abbrev pub HasBinding : Option (List BindCall) → Option (List BindCall) → Exit → Type 0
@@ -118,9 +129,10 @@ pub record IsRun (words : List (List ℕ)) (before after : Outside) (exit : Exit
   -- the net is bound once, for good words alone
   pub binding : HasBinding before.binds after.binds exit
   pub cannot_listen : (exit ≡ CannotListen) ↔ (before.bind_faults < after.bind_faults)
+  pub never_falls : before.bind_faults ≤ after.bind_faults
   -- its one life, if it had one
   pub life : Option ServedLife
-  pub lives : HasLives before.lives after.lives after.doors exit life
+  pub lives : HasLives before after exit life
 
 -- the status of each end
 abbrev pub status_of : Exit → ℕ

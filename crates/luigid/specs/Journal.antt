@@ -1,6 +1,6 @@
 -- The journal of a life: the calls that were entered, in order. This project's own.
-use Rattle.std.specs.Prelude.{ℕ, Bool, ◌==◌, ◌&&◌, ◌||◌, nat_le, List, length, filter, sum_by}
-use Rattle.std.specs.List.{list_any, enumerate_from}
+use Rattle.std.specs.Prelude.{◌≡◌, ℕ, Bool, false, ◌||◌, nat_le, List, ◌∷◌, ◌++◌, length, sum_by, All}
+use Rattle.std.specs.List.{list_any}
 use Rattle.luigid.specs.declared.journal.Entry.{Entry}
 use Rattle.luigid.specs.Request.{is_stop}
 
@@ -26,10 +26,13 @@ is_full journal = nat_le max_entries (length journal) || nat_le max_bytes (paylo
 abbrev pub is_over : List Entry → Bool
 is_over journal = has_stop journal || is_full journal
 
--- the entry is of that connection of that lane
-abbrev pub is_of : ℕ → ℕ → Entry → Bool
-is_of lane connection e = (e.who.lane == lane) && (e.who.connection == connection)
+-- no entry stands behind a place at which the journal is over
+abbrev pub NoneBehindEnd : List Entry → Type 0
+NoneBehindEnd journal =
+    (front : List Entry) (e : Entry) (back : List Entry) → journal ≡ front ++ e ∷ back → is_over front ≡ false
 
--- the entries of one connection, each with its place in the journal
-abbrev pub own_entries : ℕ → ℕ → List Entry → List (ℕ × Entry)
-own_entries lane connection journal = filter (λ p. is_of lane connection p.1) (enumerate_from 0 journal)
+-- a journal goes on by entries of that pass alone
+pub record GoesOnBy (pass : ℕ) (old new : List Entry) : Type 0 where
+  pub entries : List Entry
+  pub goes_on : new ≡ old ++ entries
+  pub of_pass : All (λ e. e.pass ≡ pass) entries

@@ -1,24 +1,33 @@
 -- The connections of a door in one life, in order. This project's own.
-use Rattle.std.specs.Prelude.{◌≡◌, ℕ, ◌<◌, List, map, length, All, Option, IfSome}
+use Rattle.std.specs.Prelude.{◌≡◌, ℕ, ◌+◌, false, List, ◌∷◌, ◌++◌, map, length, Option}
 use Rattle.std.specs.List.{flat_map}
-use Rattle.lg_io.specs.Clock.{ClockCall, readings}
+use Rattle.lg_io.specs.Clock.{ClockCall, reading}
 use Rattle.lg_io.specs.Door.{DoorTold}
+use Rattle.lg_io.specs.Tells.{TellsOn}
 use Rattle.luigid.specs.declared.journal.Entry.{Entry}
 use Rattle.luigid.specs.declared.state.State.{State}
-use Rattle.luigid.specs.Session.{Session, moments_of, Each, IsServed}
+use Rattle.luigid.specs.Journal.{is_over}
+use Rattle.luigid.specs.Replay.{Answered, answered, made_by}
+use Rattle.luigid.specs.Session.{Session, calls_of, moments_of, Each, IsServed}
 
--- the entry is of one of that many connections of the lane
-pub record IsOfLane (lane connections : ℕ) (e : Entry) : Type 0 where
-  pub lane_is : e.who.lane ≡ lane
-  pub connection_is : e.who.connection < connections
+-- the entries of some connections
+abbrev pub entries_of : List Session → List Entry
+entries_of sessions = map (λ (a : Answered). a.entry) (flat_map calls_of sessions)
 
--- A door and its clock, told of, served these connections of a life with that base and that journal.
-pub record IsLane (base : State) (journal : List Entry) (lane : ℕ) (door : DoorTold) (calls : Option (List ClockCall)) (sessions : List Session) : Type 0 where
+-- a link was accepted only while what the lane had entered wasn't over
+abbrev pub NoLinkBehindEnd : List Session → Type 0
+NoLinkBehindEnd sessions =
+    (front : List Session) (s : Session) (back : List Session) → sessions ≡ front ++ s ∷ back → is_over (entries_of front) ≡ false
+
+-- A door that tells, and its clock, served these connections of a life with that base and that journal; it may have
+-- served others before.
+pub record IsLane (base : State) (journal : List Entry) (lane : ℕ) (old new : DoorTold) (before after : Option (List ClockCall)) (sessions : List Session) : Type 0 where
   -- each link that was handed out was handed back, and they are these, in order
-  pub links : map (λ (s : Session). s.link) sessions ≡ door.ended
-  pub all_back : length door.ended ≡ door.handed
-  pub served : Each (IsServed base journal lane) sessions
-  -- the clock was read once for each received call, and for nothing else
-  pub moments : IfSome calls (λ told. readings told ≡ flat_map moments_of sessions)
-  -- the journal has no other entry
-  pub nothing_else : All (IsOfLane lane (length sessions)) journal
+  pub links : new.ended ≡ old.ended ++ map (λ (s : Session). s.link) sessions
+  pub all_back : new.handed ≡ old.handed + length sessions
+  pub served : Each (IsServed journal lane) sessions
+  -- the journal has each of their calls once, in order, with its reply, and no other of the lane
+  pub made : made_by lane (answered base journal) ≡ flat_map calls_of sessions
+  -- the clock was read for these calls, and nothing else was asked of it
+  pub read : TellsOn before after (map reading (flat_map moments_of sessions))
+  pub none_behind : NoLinkBehindEnd sessions

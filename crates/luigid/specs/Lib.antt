@@ -11,8 +11,10 @@ pub mod Transcript
 pub mod Session
 pub mod Lane
 pub mod Audit
+pub mod Life
 pub mod MemoryAudit
 pub mod Headline
 pub mod Said
+pub mod Hearing
 pub mod Handling
 pub mod Serving

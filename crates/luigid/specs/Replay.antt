@@ -1,16 +1,44 @@
--- The one-thread scheduler: what a journal does to a state, step after step. This project's own.
-use Rattle.std.specs.Prelude.{ℕ, List, [], ◌∷◌, take, slice_get, Option, option_map}
+-- The one-thread scheduler: what the entries of a journal do to a state, one after another, and what each is answered.
+-- This project's own.
+use Rattle.std.specs.Prelude.{ℕ, Bool, ◌==◌, List, [], ◌∷◌, ◌++◌, fold, filter}
 use Rattle.lg_json.specs.Tree.{Tree}
 use Rattle.luigid.specs.declared.journal.Entry.{Entry}
 use Rattle.luigid.specs.declared.state.State.{State}
+use Rattle.luigid.specs.Journal.{is_over}
 use Rattle.luigid.specs.Step.{step}
+
+-- an entry with its reply, and whether the journal was over right behind it
+pub record Answered : Type 0 where
+  pub entry : Entry
+  pub reply : Tree
+  pub over : Bool
+
+-- the scheduler behind some entries: its state, these entries, and what each was answered
+pub record Replayed : Type 0 where
+  pub state : State
+  pub journal : List Entry
+  pub answered : List Answered
+
+-- one entry more is one step more
+abbrev pub entered : Replayed → Entry → Replayed
+entered r e = record {
+  state = (step r.state e.now.0 e.request).0;
+  journal = r.journal ++ e ∷ [];
+  answered = r.answered ++ record { entry = e; reply = (step r.state e.now.0 e.request).1; over = is_over (r.journal ++ e ∷ []) } ∷ [];
+}
+
+-- a journal is replayed from a base, entry after entry
+abbrev pub replayed : State → List Entry → Replayed
+replayed base journal = fold entered (record { state = base; journal = []; answered = [] }) journal
 
 -- the state behind the entries of a journal
 abbrev pub replay : State → List Entry → State
-replay s [] = s
-replay s (e ∷ es) = replay (step s e.now.0 e.request).0 es
+replay base journal = (replayed base journal).state
 
--- the reply to the entry at a place, on the state that the entries before it left
-abbrev pub reply_at : State → List Entry → ℕ → Option Tree
-reply_at base journal place =
-    option_map (λ (e : Entry). (step (replay base (take place journal)) e.now.0 e.request).1) (slice_get journal place)
+-- the entries with their answers
+abbrev pub answered : State → List Entry → List Answered
+answered base journal = (replayed base journal).answered
+
+-- those that a pass made
+abbrev pub made_by : ℕ → List Answered → List Answered
+made_by pass entries = filter (λ a. a.entry.pass == pass) entries

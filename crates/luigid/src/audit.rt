@@ -1,5 +1,6 @@
 //! What is told of the lives: the state that each began with, its journal, and how it ended.
 ghost use Rattle.std.specs.Prelude.{◌≡◌, List, [], ◌∷◌, Option, None, All, IfSome, OnOk, OnErr};
+ghost use Rattle.lg_io.specs.Rest.{Rest};
 ghost use Rattle.lg_io.specs.Tells.{TellsOn};
 ghost use Rattle.luigid.specs.Audit.{LifeTold, HasOpenLife, EndsLife, IsGoodEntry};
 ghost use Rattle.luigid.specs.State.{IsValidState};
@@ -34,15 +35,20 @@ pub trait Audit {
     /// The lives in order, while it tells them.
     ghost lives: { Self → Option (List LifeTold) };
 
+    /// What the object tells beside this trait.
+    ghost rest: { Self → Rest };
+
     /// A life begins with this state. At an error no life began.
     fn begins(&mut self, alloc: Global, base: &State) -> Result<(), NoMemory>
         requires { IsValidState base.now }
         ensures ok { OnOk result (TellsOn (lives self.old) (lives self.new) (record { base = base.now; end = None } ∷ [])) }
-        ensures err { OnErr result (lives self.new ≡ lives self.old) };
+        ensures err { OnErr result (lives self.new ≡ lives self.old) }
+        ensures rest { rest self.new ≡ rest self.old };
 
     /// The life that began last ended.
     fn ends(&mut self, journal: Journal, end: LifeEnd)
         requires open { IfSome (lives self.old) HasOpenLife }
         requires good { All IsGoodEntry journal }
-        ensures { EndsLife journal end (lives self.old) (lives self.new) };
+        ensures told { EndsLife journal end (lives self.old) (lives self.new) }
+        ensures rest { rest self.new ≡ rest self.old };
 }

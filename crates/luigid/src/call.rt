@@ -30,7 +30,7 @@ pub enum Asked {
 }
 
 /// The call that a message makes, or why it makes none.
-pub fn asked_by(alloc: Global, message: &Message) -> Result<Asked, NoMemory>
+pub fn read_call(alloc: Global, message: &Message) -> Result<Asked, NoMemory>
     ensures asked { IfOk result (λ asked. Asks asked (call_of message.now.verb message.now.target message.now.body.items)
         (size_of message.now.target message.now.body.items)) }
     ensures memory { OnErr result (MayWantMemory (call_of message.now.verb message.now.target message.now.body.items)) }

@@ -1,12 +1,11 @@
 //! One connection: its messages, answered one after another.
-ghost use Rattle.std.specs.Prelude.{◌≡◌, [], All};
+ghost use Rattle.std.specs.Prelude.{◌≡◌, false};
+ghost use Rattle.lg_io.specs.Link.{LinkTold, fresh_link};
 ghost use Rattle.luigid.specs.declared.state.State.{State};
-ghost use Rattle.luigid.specs.Audit.{IsGoodEntry};
-ghost use Rattle.luigid.specs.Journal.{own_entries};
+ghost use Rattle.luigid.specs.Journal.{is_over, GoesOnBy};
 ghost use Rattle.luigid.specs.Replay.{replay};
 ghost use Rattle.luigid.specs.Said.{AreTexts};
-ghost use Rattle.luigid.specs.Serving.{LinkTold, fresh_link, Serves, GoesOnBy};
-ghost use Rattle.luigid.specs.State.{IsValidState};
+ghost use Rattle.luigid.specs.Serving.{Serves};
 
 use crate::handle::{Place, handle};
 use crate::hearing::{hear, speak, speak_bad_message};
@@ -17,8 +16,8 @@ use lg_io::{Clock, Link};
 use std::alloc::Global;
 use std::sync::Wait;
 
-/// Serves a link to its end: each message is answered in order, until a last response, the end of the input, a fault, or
-/// want of memory. It may wait forever.
+/// Serves a link to its end, in a life that isn't over: each message is answered in order, until a last response, the end
+/// of the input, a fault, or want of memory. It may wait forever.
 pub fn serve_connection<R: Wait, L: Link, K: Clock>(
     rt: &R,
     alloc: Global,
@@ -29,17 +28,14 @@ pub fn serve_connection<R: Wait, L: Link, K: Clock>(
     link: &mut L,
     clock: &mut K,
 )
-    requires valid { IsValidState life.old.state }
-    requires good { All IsGoodEntry life.old.journal }
+    requires not_over { is_over life.old.journal ≡ false }
     requires texts { AreTexts texts.now }
-    ensures serves { (base : State) → life.old.state ≡ replay base life.old.journal → own_entries lane connection life.old.journal ≡ []
+    ensures serves { (base : State) → life.old.state ≡ replay base life.old.journal
         → record { received = L.received link.old; taken = L.taken link.old; read_faults = L.Source.faults link.old; write_faults = L.Sink.faults link.old } ≡ fresh_link
-        → Serves base lane connection life.new.journal (K.calls clock.old) (K.calls clock.new)
+        → Serves base lane connection life.old.journal life.new.journal (K.calls clock.old) (K.calls clock.new)
         record { received = L.received link.new; taken = L.taken link.new; read_faults = L.Source.faults link.new; write_faults = L.Sink.faults link.new } }
-    ensures goes_on { GoesOnBy lane connection life.old.journal life.new.journal }
+    ensures goes_on { GoesOnBy lane life.old.journal life.new.journal }
     ensures replayed { (base : State) → life.old.state ≡ replay base life.old.journal → life.new.state ≡ replay base life.new.journal }
-    ensures valid { IsValidState life.new.state }
-    ensures good { All IsGoodEntry life.new.journal }
     ensures rest { K.rest clock.new ≡ K.rest clock.old }
 {
     let Ok(mut reader) = Reader::make(alloc) else {
@@ -61,8 +57,8 @@ pub fn serve_connection<R: Wait, L: Link, K: Clock>(
                     return;
                 }
             }
-            Next::Bad(_) => {
-                let _ = speak_bad_message(texts, link);
+            Next::Bad(status) => {
+                let _ = speak_bad_message(status, texts, link);
                 return;
             }
             Next::End => return,

@@ -1,6 +1,7 @@
 //! The daemon: its words, its door, its life, and how it ends.
 ghost use Rattle.std.specs.Prelude.{◌≡◌, ◌↔◌, ◌⊎◌, [], ◌∷◌, ℕ, map, length, All, List, Err, IsTrue, IsErrOf, IfOk, OnOk, OnErr};
 ghost use Rattle.lg_io.specs.Cause.{HasCause};
+ghost use Rattle.lg_io.specs.Door.{DoorSeen};
 ghost use Rattle.lg_io.specs.Tells.{TellsOn};
 ghost use Rattle.luigid.specs.declared.exit.Exit.{Exit};
 ghost use Rattle.luigid.specs.declared.journal.Entry.{Entry};
@@ -52,6 +53,7 @@ pub fn luigid<R: Wait, N: Net, F: Files, G: Numbers, U: Audit, O: Sink, S: Sink>
     ensures files { files.new ≡ files.old }
     ensures numbers { numbers.new ≡ numbers.old }
     ensures out { out.new ≡ out.old }
+    ensures rest { U.rest audit.new ≡ U.rest audit.old }
 {
     run(rt, alloc, words, net, doors, audit).tell(err)
 }
@@ -66,7 +68,8 @@ fn run<R: Wait, N: Net, U: Audit>(
     audit: &mut U,
 ) -> Exit
     requires { doors.old.items ≡ [] }
-    ensures { IsRun words.now
+    ensures rest { U.rest audit.new ≡ U.rest audit.old }
+    ensures run { IsRun words.now
         record { binds = N.binds net.old; bind_faults = N.faults net.old; doors = []; lives = U.lives audit.old }
         record { binds = N.binds net.new; bind_faults = N.faults net.new; doors = map (λ d. record { door = N.Door.door d; calls = N.Door.calls d }) doors.new.items; lives = U.lives audit.new }
         result }
@@ -91,7 +94,8 @@ fn serve<R: Wait, N: Net, U: Audit>(
 ) -> Exit
     requires empty { doors.old.items ≡ [] }
     requires texts { AreTexts texts.now }
-    ensures { (words : List (List ℕ)) → IsLine words → IsRun words
+    ensures rest { U.rest audit.new ≡ U.rest audit.old }
+    ensures run { (words : List (List ℕ)) → IsLine words → IsRun words
         record { binds = N.binds net.old; bind_faults = N.faults net.old; doors = []; lives = U.lives audit.old }
         record { binds = N.binds net.new; bind_faults = N.faults net.new; doors = map (λ d. record { door = N.Door.door d; calls = N.Door.calls d }) doors.new.items; lives = U.lives audit.new }
         result }
@@ -146,6 +150,7 @@ fn serve_life<R: Wait, D: Door, U: Audit>(
     ensures ok { IfOk result (λ end. (journal : List Entry) × IsServedLife (U.lives audit.old) (U.lives audit.new)
         record { door = D.door door.new; calls = D.calls door.new } record { journal = journal; end = end }) }
     ensures err { OnErr result ((U.lives audit.new ≡ U.lives audit.old) × (door.new ≡ door.old)) }
+    ensures rest { U.rest audit.new ≡ U.rest audit.old }
 {
     let base = State::empty(alloc);
     audit.begins(alloc, &base)?;

@@ -1,16 +1,15 @@
 //! One message: its call, the moment, the step, and what is said to it.
-ghost use Rattle.std.specs.Prelude.{◌≡◌, All};
+ghost use Rattle.std.specs.Prelude.{◌≡◌, false};
 ghost use Rattle.lg_http.specs.Answers.{Shows};
-ghost use Rattle.lg_http.specs.Messages.{Request as Arrived};
+ghost use Rattle.lg_http.specs.Messages.{WholeMessage};
 ghost use Rattle.luigid.specs.declared.state.State.{State};
-ghost use Rattle.luigid.specs.Audit.{IsGoodEntry};
 ghost use Rattle.luigid.specs.Handling.{Handles};
+ghost use Rattle.luigid.specs.Journal.{is_over, GoesOnBy};
 ghost use Rattle.luigid.specs.Replay.{replay};
 ghost use Rattle.luigid.specs.Said.{answer_of};
-ghost use Rattle.luigid.specs.Serving.{GoesOnBy};
-ghost use Rattle.luigid.specs.State.{IsValidState};
+ghost use Rattle.luigid.specs.Transcript.{is_last};
 
-use crate::call::{Asked, asked_by};
+use crate::call::{Asked, read_call};
 use crate::journal::{CallName, Entry};
 use crate::life::Life;
 use crate::said::Said;
@@ -28,7 +27,8 @@ pub struct Place {
     pub nth: u64,
 }
 
-/// Handles a message. The clock is read once, right before the call is entered, and for nothing else.
+/// Handles a message, in a life that isn't over. The clock is read once, right before the call is entered, and for nothing
+/// else.
 pub fn handle<K: Clock>(
     alloc: Global,
     life: &mut Life,
@@ -36,18 +36,16 @@ pub fn handle<K: Clock>(
     message: &Message,
     clock: &mut K,
 ) -> Said
-    requires valid { IsValidState life.old.state }
-    requires good { All IsGoodEntry life.old.journal }
-    ensures handles { (base : State) (arrived : Arrived) → life.old.state ≡ replay base life.old.journal → Shows message.now arrived
+    requires { is_over life.old.journal ≡ false }
+    ensures handles { (base : State) (arrived : WholeMessage) → life.old.state ≡ replay base life.old.journal → Shows message.now arrived
         → Handles base place.lane place.connection place.nth arrived (answer_of result) life.old.journal life.new.journal
         (K.calls clock.old) (K.calls clock.new) }
     ensures replayed { (base : State) → life.old.state ≡ replay base life.old.journal → life.new.state ≡ replay base life.new.journal }
-    ensures goes_on { GoesOnBy place.lane place.connection life.old.journal life.new.journal }
-    ensures valid { IsValidState life.new.state }
-    ensures good { All IsGoodEntry life.new.journal }
+    ensures goes_on { GoesOnBy place.lane life.old.journal life.new.journal }
+    ensures not_over { is_last (answer_of result) ≡ false → is_over life.new.journal ≡ false }
     ensures rest { K.rest clock.new ≡ K.rest clock.old }
 {
-    let (request, size) = match asked_by(alloc, message) {
+    let (request, size) = match read_call(alloc, message) {
         Ok(Asked::Call(request, size)) => (request, size),
         Ok(Asked::Refused(refusal)) => return Said::Refused(refusal),
         Err(NoMemory) => return Said::NoMemory,

@@ -1,11 +1,13 @@
 //! One link, heard and spoken to: what is read changes nothing of what was written, and the other way round.
 ghost use Rattle.std.specs.Prelude.{◌≡◌, ◌≢◌, ℕ, List, ◌++◌, None, IsErr};
 ghost use Rattle.lg_http.specs.declared.message.Next.TheVariants.{Quiet, Failed};
-ghost use Rattle.lg_http.specs.Answers.{Gave, Reads, ending_of};
+ghost use Rattle.lg_http.specs.Answers.{Reads, ending_of};
+ghost use Rattle.lg_http.specs.Response.{IsStatus};
 ghost use Rattle.lg_io.specs.Cause.{HasCause};
 ghost use Rattle.lg_io.specs.Sink.{WritesAll};
+ghost use Rattle.luigid.specs.Hearing.{HearsOn};
 ghost use Rattle.luigid.specs.Said.{answer_of, AreTexts};
-ghost use Rattle.luigid.specs.Transcript.{response_of, bad_message};
+ghost use Rattle.luigid.specs.Transcript.{response_of, error_response};
 
 use crate::said::Said;
 use crate::texts::Texts;
@@ -19,8 +21,8 @@ use std::sync::Wait;
 pub fn hear<R: Wait, L: Link>(rt: &R, alloc: Global, reader: &mut Reader, link: &mut L) -> Next
     requires { reader.old.over ≡ None }
     ensures loud { result ≢ Quiet }
-    ensures reads { (got : List ℕ) × Gave (L.received link.old) (L.received link.new) got
-        × Reads (reader.old.left ++ got) result reader.new.left (L.received link.new) }
+    ensures reads { (got : List ℕ) × HearsOn (L.received link.old) (L.received link.new) result got
+        × Reads (reader.old.left ++ got) result reader.new.left }
     ensures over { reader.new.over ≡ ending_of result }
     ensures cause { HasCause (L.Source.faults link.old) (L.Source.faults link.new) (result ≡ Failed) }
     ensures taken { L.taken link.new ≡ L.taken link.old }
@@ -46,13 +48,14 @@ pub fn speak<L: Link>(said: &Said, texts: &Texts, link: &mut L) -> Result<(), Wr
     said.say(texts, link)
 }
 
-/// Writes to a link that what stands in a message's place is none.
-pub fn speak_bad_message<L: Link>(texts: &Texts, link: &mut L) -> Result<(), WriteFailed>
-    requires { AreTexts texts.now }
-    ensures told { WritesAll (L.taken link.old) (L.taken link.new) bad_message result }
+/// Writes to a link, with this status, that what stands in a message's place is none.
+pub fn speak_bad_message<L: Link>(status: u16, texts: &Texts, link: &mut L) -> Result<(), WriteFailed>
+    requires status { IsStatus status }
+    requires texts { AreTexts texts.now }
+    ensures told { WritesAll (L.taken link.old) (L.taken link.new) (error_response status) result }
     ensures cause { HasCause (L.Sink.faults link.old) (L.Sink.faults link.new) (IsErr result) }
     ensures received { L.received link.new ≡ L.received link.old }
     ensures read { L.Source.faults link.new ≡ L.Source.faults link.old }
 {
-    respond(link, 400, texts.bad_message(), true)
+    respond(link, status, texts.bad_message(), true)
 }

@@ -1,8 +1,9 @@
 //! A life: a state, and the journal of the calls that moved it on.
-ghost use Rattle.std.specs.Prelude.{◌≡◌, ◌^◌, ◌-◌, ◌<◌, min, [], ◌∷◌, ◌++◌, IfOk, OnOk, OnErr};
+ghost use Rattle.std.specs.Prelude.{◌≡◌, ◌^◌, ◌<◌, false, [], ◌∷◌, ◌++◌, All, IfOk, OnOk, OnErr};
 ghost use Rattle.lg_json.specs.Tree.{tree_of};
+ghost use Rattle.luigid.specs.Audit.{IsGoodEntry};
 ghost use Rattle.luigid.specs.Request.{IsInRange};
-ghost use Rattle.luigid.specs.Journal.{has_stop, is_full, is_over, payload_bytes};
+ghost use Rattle.luigid.specs.Journal.{has_stop, is_over, NoneBehindEnd};
 ghost use Rattle.luigid.specs.State.{IsValidState};
 ghost use Rattle.luigid.specs.Step.{step};
 
@@ -11,6 +12,7 @@ use crate::state::State;
 use crate::step::{Reply, make_step};
 use lg_base::NoMemory;
 use std::alloc::Global;
+use std::marker::Model;
 
 /// The most entries of a journal.
 const MAX_ENTRIES: usize = 200_000;
@@ -18,24 +20,34 @@ const MAX_ENTRIES: usize = 200_000;
 /// The most bytes of payload of a journal, in sum.
 const MAX_BYTES: u64 = 268_435_456;
 
-/// The scheduler of one thread, with its journal.
-#[derive(Debug, Drop)]
+/// The scheduler of one thread, with its journal. Contracts see its state and its journal. The state is valid, each entry
+/// is in range, and none stands behind a place at which the journal is over.
+#[derive(Drop)]
 pub struct Life {
     /// The state behind the last entry.
-    pub state: State,
+    state: State,
     /// The calls, in order.
-    pub journal: Journal,
+    journal: Journal,
     /// Whether the journal holds a `stop`.
     stopped: bool,
     /// The bytes of the payloads in sum; 2^64 - 1 where there are more.
     bytes: u64,
-    pub ghost is_marked: { stopped ≡ has_stop journal },
-    pub ghost is_counted: { bytes ≡ min (payload_bytes journal) (2 ^ 64 - 1) },
+}
+
+impl Model for Life {
+    ghost use Rattle.luigid.specs.Life.{Lived, IsKept};
+
+    ghost Value = { Lived };
+
+    ghost view = { λ life. record { state = life.state; journal = life.journal } };
+
+    ghost invariant = { λ life. IsKept life.state life.journal life.stopped life.bytes };
 }
 
 impl Life {
     /// A life that begins with this state.
     pub fn begin(alloc: Global, base: State) -> Life
+        requires { IsValidState base }
         ensures state { result.state ≡ base }
         ensures journal { result.journal ≡ [] }
     {
@@ -58,19 +70,14 @@ impl Life {
     pub fn is_over(&self) -> bool
         ensures { result ≡ is_over self.now.journal }
     {
-        self.stopped || self.is_full()
-    }
-
-    /// Whether the journal has its most entries or its most bytes.
-    fn is_full(&self) -> bool
-        ensures { result ≡ is_full self.now.journal }
-    {
-        self.journal.len() >= MAX_ENTRIES || self.bytes >= MAX_BYTES
+        self.stopped || self.journal.len() >= MAX_ENTRIES || self.bytes >= MAX_BYTES
     }
 
     /// The journal, at the end of the life.
     pub fn into_journal(self) -> Journal
-        ensures { result ≡ self.journal }
+        ensures same { result ≡ self.journal }
+        ensures good { All IsGoodEntry result }
+        ensures none_behind { NoneBehindEnd result }
     {
         let Life {
             state: _,
@@ -85,12 +92,11 @@ impl Life {
     pub fn call(&mut self, entry: Entry) -> Result<Reply, NoMemory>
         requires in_time { entry.now.0 < 2 ^ 62 }
         requires in_range { IsInRange entry.request }
-        requires valid { IsValidState self.old.state }
+        requires not_over { is_over self.old.journal ≡ false }
         ensures entered { OnOk result (self.new.journal ≡ self.old.journal ++ entry ∷ []) }
         ensures state { OnOk result (self.new.state ≡ (step self.old.state entry.now.0 entry.request).0) }
         ensures reply { IfOk result (λ reply. tree_of reply.0 ≡ (step self.old.state entry.now.0 entry.request).1) }
-        ensures err { OnErr result ((self.new.journal ≡ self.old.journal) × (self.new.state ≡ self.old.state)) }
-        ensures valid { IsValidState self.new.state }
+        ensures err { OnErr result (self.new ≡ self.old) }
     {
         let now = entry.now;
         let stops = entry.request.is_stop();

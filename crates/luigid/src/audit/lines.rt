@@ -1,4 +1,4 @@
-ghost use Rattle.std.specs.Prelude.{◌≡◌, length, IsErr};
+ghost use Rattle.std.specs.Prelude.{◌≡◌, length, IsOk, IsErr};
 ghost use Rattle.lg_io.specs.Cause.{HasCause};
 ghost use Rattle.lg_io.specs.Sink.{WritesAll};
 ghost use Rattle.luigid.specs.Audit.{life_line, end_of_line};
@@ -31,10 +31,17 @@ impl<S: Sink> LineAudit<S> {
 
 impl<S: Sink> Audit for LineAudit<S> {
     ghost use Rattle.std.specs.Prelude.{None};
+    ghost use Rattle.lg_io.specs.Rest.{nothing};
 
     ghost lives = { λ _. None };
 
-    fn begins(&mut self, _alloc: Global, _base: &State) -> Result<(), NoMemory> {
+    ghost rest = { λ _. nothing };
+
+    /// Writes nothing, and refuses nothing.
+    fn begins(&mut self, _alloc: Global, _base: &State) -> Result<(), NoMemory>
+        ensures begun { IsOk result }
+        ensures same { self.new ≡ self.old }
+    {
         Ok(())
     }
 

@@ -47,7 +47,11 @@ impl Audit for MemoryAudit {
     ghost use Rattle.luigid.specs.MemoryAudit.{life_told};
     ghost use Rattle.std.specs.Prelude.{map, Some};
 
+    ghost use Rattle.lg_io.specs.Rest.{nothing};
+
     ghost lives = { λ audit. Some (map life_told audit.lives.items) };
+
+    ghost rest = { λ _. nothing };
 
     fn begins(&mut self, _alloc: Global, base: &State) -> Result<(), NoMemory> {
         self.lives.push(AuditedLife {

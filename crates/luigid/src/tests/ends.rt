@@ -17,7 +17,11 @@ struct FullAudit;
 impl Audit for FullAudit {
     ghost use Rattle.std.specs.Prelude.{None};
 
+    ghost use Rattle.lg_io.specs.Rest.{nothing};
+
     ghost lives = { λ _. None };
+
+    ghost rest = { λ _. nothing };
 
     fn begins(&mut self, _alloc: Global, _base: &State) -> Result<(), NoMemory> {
         Err(NoMemory)

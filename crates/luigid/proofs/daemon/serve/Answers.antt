@@ -12,8 +12,8 @@ was_called : (old new : Option (List BindCall)) (calls : List BindCall) (unit : 
 was_called old new calls unit (inl without) = let differ = without.0 in absurd (cc)
 was_called old new calls unit (inr told) = told
 
-pub returns-in-Ok-serve_life : goal.returns-in-Ok-serve_life
-returns-in-Ok-serve_life g c words line =
+pub returns-in-Ok-serve_life-clause-run : goal.returns-in-Ok-serve_life-clause-run
+returns-in-Ok-serve_life-clause-run g c words line =
     run_served _ _ _ _ record { journal = c.in-Ok-serve_life.ensures.ok.0; end = c.in-Ok-serve_life.end } _
-    line (was_called _ _ _ _ c.in-Ok.ensures.told) (λ rose. let failed = c.in-Ok.ensures.cause.rises.1 rose in cc)
+    line (was_called _ _ _ _ c.in-Ok.ensures.told) c.in-Ok.ensures.cause.never_falls (λ rose. let failed = c.in-Ok.ensures.cause.rises.1 rose in cc)
     (only_door _ _ _ c.in-Ok.ensures.one) c.in-Ok-serve_life.ensures.ok.1 c.from.ensures

@@ -8,8 +8,8 @@ ends-requires-clause-open g c = begun_is_open _ _ _ c.in_ok-begins.ensures.ok
 
 pub returns-clause-ok : goal.returns-clause-ok
 returns-clause-ok g c =
-    let lane = c.serve_lane-end.ensures.served c.requires.untouched.unused c.requires.untouched.uncalled in (
+    let lane = c.serve_lane-end.ensures in (
       c.into_journal.result,
-      served_life c.begin-life.result.state _ _ _ _ _ _ _ (c.begin-life.ensures.state ∙ c.empty-base.ensures.empty) c.into_journal.ensures
-          (rw c.begin-life.ensures.state c.in_ok-begins.ensures.ok) c.ends.ensures c.serve_lane-end.ensures.ends lane,
+      served_life c.begin-life.result.state _ _ _ _ _ _ _ _ (c.begin-life.ensures.state ∙ c.empty-base.ensures.empty) c.into_journal.ensures.same
+          (rw c.begin-life.ensures.state c.in_ok-begins.ensures.ok) c.ends.ensures.told lane.ends c.into_journal.ensures.none_behind lane.no_other c.requires.untouched lane.served,
     )

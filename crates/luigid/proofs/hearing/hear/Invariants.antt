@@ -1,5 +1,6 @@
 use Rattle.std.proofs.Common.{◌≡◌, ℕ, List, ◌++◌, None}
-use Rattle.lg_http.specs.Answers.{Gave}
+use Rattle.lg_http.specs.declared.message.Next.TheVariants as Answer
+use Rattle.luigid.specs.Hearing.{HearsOn}
 use Rattle.luigid.proofs.hearing.hear.Given as goal
 
 -- what the source gave so far is left, and nothing failed or was written
@@ -9,7 +10,7 @@ invariant-loop g l =
     let sink = g.L.Sink in
     record {
       over : l.reader.over ≡ None;
-      got : (got : List ℕ) × Gave (source.received l.fn.link) (source.received l.link) got × (l.reader.left ≡ l.fn.reader.left ++ got);
+      got : (got : List ℕ) × HearsOn (source.received l.fn.link) (source.received l.link) Answer.Quiet got × (l.reader.left ≡ l.fn.reader.left ++ got);
       faults : source.faults l.link ≡ source.faults l.fn.link;
       taken : sink.taken l.link ≡ sink.taken l.fn.link;
       wrote : sink.faults l.link ≡ sink.faults l.fn.link;

@@ -1,35 +1,57 @@
-use Rattle.std.proofs.Common.{◌≡◌, ℕ, refl, sym, ◌∙◌, Option}
-use Rattle.std.proofs.lemmas.List.Elements.{All-nil}
-use Rattle.lg_io.specs.Door.{DoorTold}
+use Rattle.std.proofs.Common.{◌≡◌, ◌∷◌, Bool, ◌||◌, List, refl, sym, ◌∙◌, ap, arith, Option, ℕ, true, false}
+use Rattle.std.proofs.lemmas.List.Elements.{All-nil, All-append}
+use Rattle.lg_io.specs.Door.{DoorTold, closed, failed, no_memory}
 use Rattle.lg_io.specs.Rest.{of_door}
-use Rattle.luigid.specs.Audit.{IsGoodEntry}
-use Rattle.luigid.specs.Lane.{IsOfLane}
-use Rattle.luigid.proofs.Lanes.{served_nothing, served_more, of_lane-more}
+use Rattle.luigid.specs.declared.audit.LifeEnd.TheVariants.{Stop, Full, Closed, Doors, Memory}
+use Rattle.luigid.specs.declared.journal.Entry.{Entry}
+use Rattle.luigid.proofs.Journals.{alone_more, stop_is_over}
+use Rattle.luigid.proofs.Lanes.{so_far_nothing, so_far_more}
+use Rattle.luigid.proofs.LaneEnds.{ends_over, ends_by_door}
 use Rattle.luigid.proofs.lane.serve_lane.Goals as goal
 
 -- the doors of equal rests are equal
-same_door : (x y : Option DoorTold) (m n : ℕ) → of_door x m ≡ of_door y n → x ≡ y
-same_door x y m n same = cc
+same_door : (x y : Option DoorTold) (m n : ℕ) (b d : Bool) → of_door x m b ≡ of_door y n d → x ≡ y
+same_door x y m n b d same = cc
 
 pub loop-connection-init : goal.loop-connection-init
 loop-connection-init g c = record {
-  valid = c.requires.valid;
-  good = rw c.requires.begun (All-nil IsGoodEntry);
+  begun = λ none. c.requires.begun;
   replayed = rw c.requires.begun refl;
-  of_lane = rw c.requires.begun (All-nil (IsOfLane _ 0));
-  served = served_nothing _ _ _ _ _ c.requires.begun;
+  alone = rw c.requires.begun (All-nil (λ (e : Entry). e.pass ≡ c.args.lane));
+  so_far = so_far_nothing _ _ _ _ _ c.requires.begun;
 }
 
 pub loop-connection-preserved : goal.loop-connection-preserved
 loop-connection-preserved g c =
     let laws = g.met.D.Door g.world.𝓛 g.world.𝓜 g.world.𝓡 ((λ s x. x), (λ x. x), (λ x. x), λ x. x) in
-    let so_far = c.loop-connection.invariant in
-    let kept = same_door _ _ _ _ (sym (laws.clock_rest c.serve_connection.new.clock) ∙ c.serve_connection.ensures.rest ∙ laws.clock_rest c.next_link.new.door) ∙ c.in-Conn.ensures.told in
+    let before = c.loop-connection.invariant in
+    let kept = same_door _ _ _ _ _ _ (sym (laws.clock_rest c.serve_connection.new.clock) ∙ c.serve_connection.ensures.rest ∙ laws.clock_rest c.next_link.new.door) ∙ c.in-Conn.ensures.told in
     record {
-      valid = c.serve_connection.ensures.valid;
-      good = c.serve_connection.ensures.good;
-      replayed = c.serve_connection.ensures.replayed _ so_far.replayed;
-      of_lane = of_lane-more _ _ _ _ so_far.of_lane c.serve_connection.ensures.goes_on;
-      served = λ unused uncalled. served_more _ _ _ _ _ _ _ _ _ _ _ _ _ _ (so_far.served unused uncalled) so_far.of_lane c.in-Conn.ensures.fresh c.serve_connection.ensures.goes_on
-          c.in-Conn.ensures.calls (c.serve_connection.ensures.serves _ so_far.replayed) c.done.ensures.told kept c.done.ensures.calls;
+      begun = λ none. absurd (omega (arith, none));
+      replayed = c.serve_connection.ensures.replayed _ before.replayed;
+      alone = alone_more _ _ _ before.alone c.serve_connection.ensures.goes_on;
+      so_far = so_far_more _ _ _ _ _ _ _ _ _ _ _ _ _ _ _ _ before.so_far (sym c.is_over.ensures ∙ c.if-is_over.false) before.alone c.in-Conn.ensures.fresh c.serve_connection.ensures.goes_on
+          c.in-Conn.ensures.calls (c.serve_connection.ensures.serves _ before.replayed) kept c.done.ensures.told c.done.ensures.calls;
     }
+
+pub returns-then-is_stopped-clause-served : goal.returns-then-is_stopped-clause-served
+returns-then-is_stopped-clause-served g c =
+    let before = c.loop-connection.invariant in
+    ends_over _ _ _ _ _ _ _ _ Stop before.so_far before.begun (stop_is_over _ (sym c.is_stopped.ensures ∙ c.if-is_stopped.true)) (λ told last. last)
+
+pub returns-then-is_over-clause-served : goal.returns-then-is_over-clause-served
+returns-then-is_over-clause-served g c =
+    let before = c.loop-connection.invariant in
+    ends_over _ _ _ _ _ _ _ _ Full before.so_far before.begun (sym c.is_over.ensures ∙ c.if-is_over.true) (λ told last. last)
+
+pub returns-in-Closed-clause-served : goal.returns-in-Closed-clause-served
+returns-in-Closed-clause-served g c =
+    ends_by_door _ _ _ _ _ _ _ _ _ _ Closed closed c.loop-connection.invariant.so_far refl c.in-Closed.ensures.told c.in-Closed.ensures.calls (λ told. refl)
+
+pub returns-in-Failed-clause-served : goal.returns-in-Failed-clause-served
+returns-in-Failed-clause-served g c =
+    ends_by_door _ _ _ _ _ _ _ _ _ _ Doors failed c.loop-connection.invariant.so_far refl c.in-Failed.ensures.told c.in-Failed.ensures.calls (λ told. refl)
+
+pub returns-in-NoMemory-clause-served : goal.returns-in-NoMemory-clause-served
+returns-in-NoMemory-clause-served g c =
+    ends_by_door _ _ _ _ _ _ _ _ _ _ Memory no_memory c.loop-connection.invariant.so_far refl c.in-NoMemory.ensures.told c.in-NoMemory.ensures.calls (λ told. refl)

@@ -1,5 +1,5 @@
-use Rattle.luigid.proofs.Replays.{replay-push, reply_at-newest}
+use Rattle.luigid.proofs.Replays.{replay-push, answered-push}
 use Rattle.luigid.proofs.laws.one_step_each.Goals as goal
 
 pub returns : goal.returns
-returns c = λ base journal e. (replay-push base journal e, reply_at-newest base journal e)
+returns c = λ base journal e. (replay-push base journal e, answered-push base journal e)
