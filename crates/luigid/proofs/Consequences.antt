@@ -1,16 +1,21 @@
 -- What the definitions come to.
-use Rattle.std.proofs.Common.{◌≡◌, ◌≢◌, ℕ, ◌≤◌, pos, negsuc, Bool, true, false, List, [], ◌∷◌, ◌++◌, ◌||◌, codes, length, length-append, nat_le, refl, arith, Err}
+use Rattle.std.proofs.Common.{◌≡◌, ◌≢◌, ℕ, ◌≤◌, pos, negsuc, Bool, true, false, List, [], ◌∷◌, ◌++◌, ◌||◌, codes, length, length-append, nat_le, refl, arith, Ok, Err}
 use Rattle.std.proofs.lemmas.Bool.Decides.{Decides-eqb, nat_tests}
 use Rattle.std.proofs.lemmas.List.Sums.{sum_by-append}
 use Rattle.std.proofs.lemmas.Slice.Eq.{slice_eq-Decides}
+use Rattle.serde_json.specs.Data.{Members}
+use Rattle.std.specs.List.{starts_with}
+use Rattle.std.specs.Prelude.{nat_eq}
 use Rattle.std.specs.Str.{bytes_eq}
 use Rattle.luigid.specs.declared.journal.Entry.{Entry}
-use Rattle.luigid.specs.declared.refusal.Refusal.TheVariants.{BadVerb}
+use Rattle.luigid.specs.declared.refusal.Refusal.{Refusal}
+use Rattle.luigid.specs.declared.refusal.Refusal.TheVariants.{BadVerb, UnknownPath, UnknownMethod}
 use Rattle.luigid.specs.declared.request.Request.{Request}
 use Rattle.luigid.specs.declared.request.Request.TheVariants.{UpdateResource, Stop}
 use Rattle.luigid.specs.declared.state.State.{State}
-use Rattle.luigid.specs.Call.{call_of}
+use Rattle.luigid.specs.Call.{amount_in, call_of, resource_in, update_of}
 use Rattle.luigid.specs.Journal.{has_stop, is_full, is_over, max_bytes, max_entries, payload_bytes}
+use Rattle.luigid.specs.Methods.{is_method, method_named, method_of}
 use Rattle.luigid.specs.Request.{is_stop}
 use Rattle.luigid.specs.Step.{step}
 
@@ -46,3 +51,31 @@ other_value verb target body false is found differs = rw is refl
 
 pub other_verb : (verb target body : List ℕ) → verb ≢ codes "POST" → call_of verb target body ≡ Err BadVerb
 other_verb verb target body differs = other_value verb target body (bytes_eq verb (codes "POST")) refl (λ yes. (slice_eq-Decides Decides-eqb _ _ _ refl).0 yes) differs
+
+-- a path of another front
+pub unknown_path : (path : List ℕ) → starts_with nat_eq path (codes "/api/") ≡ false → method_of path ≡ Err UnknownPath
+unknown_path path other = rw other refl
+
+-- what names no method is none of those that are built
+differs : (name known : List ℕ) → is_method known ≡ true → is_method name ≡ false → bytes_eq name known ≡ false
+differs name known is none = by_value (bytes_eq name known) refl where
+  by_value : (same : Bool) → bytes_eq name known ≡ same → bytes_eq name known ≡ false
+  by_value false other = other
+  by_value true same =
+      let equal : name ≡ known = (slice_eq-Decides Decides-eqb _ _ _ refl).0 same in
+      let named : is_method name ≡ true = rw equal is in
+      absurd (cc)
+
+unknown_method : (name : List ℕ) → is_method name ≡ false → method_named name ≡ Err UnknownMethod
+unknown_method name none = rw (differs name (codes "update_resource") refl none, differs name (codes "stop") refl none, none) refl
+
+pub unknown_method_path : (path name : List ℕ) → path ≡ codes "/api/" ++ name → is_method name ≡ false → method_of path ≡ Err UnknownMethod
+unknown_method_path path name is none = rw is (unknown_method name none)
+
+-- the first argument is at fault
+pub no_resource : (members : Members) (refusal : Refusal) → resource_in members ≡ Err refusal → update_of members ≡ Err refusal
+no_resource members refusal is = rw is refl
+
+-- the second is
+pub no_amount : (members : Members) (resource : List ℕ) (refusal : Refusal) → resource_in members ≡ Ok resource → amount_in members ≡ Err refusal → update_of members ≡ Err refusal
+no_amount members resource refusal first second = rw (first, second) refl

@@ -44,7 +44,7 @@ front_of_front (y ∷ xs) (first ∷ front) back last x is =
     let heads : y ≡ first = cc in
     let tails : xs ++ last ∷ [] ≡ front ++ x ∷ back = cc in
     let rest = front_of_front xs front back last x tails in
-    (rest.0, rw (heads, rest.1) refl)
+    (rest.0, ap (λ zs. y ∷ zs) rest.1 ∙ ap (λ z. z ∷ (front ++ rest.0)) heads)
 
 -- a front of a journal that isn't over isn't over
 pub open_front : (front more : List Entry) → is_over (front ++ more) ≡ false → is_over front ≡ false

@@ -1,7 +1,8 @@
 -- How a lane ends, from what it served so far.
 use Rattle.std.proofs.Common.{◌≡◌, ◌≢◌, ℕ, zero, suc, ◌+◌, ◌<◌, true, false, List, [], refl, sym, ◌∙◌, ap, arith, Option, Some, None, option_map}
 use Rattle.lg_io.specs.Clock.{ClockCall}
-use Rattle.lg_io.specs.Door.{AcceptKind, DoorTold, DoorSeen, conn, accepted, handed_by}
+use Rattle.lg_io.specs.Door.{AcceptKind, DoorTold, conn, accepted, handed_by}
+use Rattle.lg_io.specs.DoorSeen.{DoorSeen}
 use Rattle.luigid.specs.declared.audit.LifeEnd.{LifeEnd}
 use Rattle.luigid.specs.declared.journal.Entry.{Entry}
 use Rattle.luigid.specs.declared.state.State.{State}

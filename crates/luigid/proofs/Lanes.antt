@@ -6,7 +6,7 @@ use Rattle.std.proofs.lemmas.List.Elements.{All-head, All-tail}
 use Rattle.std.specs.List.{flat_map}
 use Rattle.std.specs.Prelude.{◌==◌, MatchOption}
 use Rattle.lg_io.specs.Clock.{ClockCall, reading}
-use Rattle.lg_io.specs.Door.{conn, accepted, DoorTold, told_done, ended_link, done_with, IsFresh}
+use Rattle.lg_io.specs.Door.{conn, accepted, DoorTold, told_done, done_with, IsFresh}
 use Rattle.lg_io.specs.Link.{LinkTold, fresh_link}
 use Rattle.lg_io.specs.Tells.{TellsOn}
 use Rattle.lg_io.proofs.CallerLemmas.{TellsOn-nothing, TellsOn-append}
@@ -100,16 +100,15 @@ so_far_nothing base journal lane (Some old) calls empty = (old, refl, rw empty (
 one_more : (base : State) (journal new : List Entry) (lane connections : ℕ) (old told : DoorTold) (before now after : Option (List ClockCall)) (link : LinkTold)
     → ServedSoFar base journal lane connections old told before now → is_over journal ≡ false → All (λ (e : Entry). e.pass ≡ lane) journal → GoesOnBy lane journal new
     → (s : Serves base lane connections journal new now after link)
-    → ServedSoFar base new lane (connections + 1) old (done_with (ended_link s.received s.written (link.read_faults + link.write_faults)) (accepted conn told)) before after
+    → ServedSoFar base new lane (connections + 1) old (done_with s.session.link (accepted conn told)) before after
 one_more base journal new lane connections old told before now after link so_far still alone goes s =
     let more : length (so_far.sessions ++ s.session ∷ []) ≡ connections + 1 = simp length-append (omega (arith, so_far.count)) in
     let lane' = so_far.as_lane in
     record {
       sessions = so_far.sessions ++ s.session ∷ [];
       as_lane = record {
-        links = ap (λ front. front ++ ended_link s.received s.written (link.read_faults + link.write_faults) ∷ []) lane'.links
-            ∙ append_assoc old.ended _ _
-            ∙ ap (λ back. old.ended ++ back) (ap (λ l. map (λ (x : Session). x.link) so_far.sessions ++ l ∷ []) (sym s.link_is) ∙ sym (map-append (λ (x : Session). x.link) so_far.sessions (s.session ∷ [])));
+        links = ap (λ front. front ++ s.session.link ∷ []) lane'.links ∙ append_assoc old.ended _ _
+            ∙ ap (λ back. old.ended ++ back) (sym (map-append (λ (x : Session). x.link) so_far.sessions (s.session ∷ [])));
         all_back = simp length-append (omega (arith, lane'.all_back));
         served = Each-push (IsServed new lane) so_far.sessions s.session
             (Each-map _ _ so_far.sessions (λ place session served. stays_served journal new lane place session goes served) lane'.served) (rw so_far.count s.served);
@@ -121,16 +120,6 @@ one_more base journal new lane connections old told before now after link so_far
       last = λ some. refl;
     }
 
--- a fresh link of a door that tells
-fresh_told : (told : DoorTold) (link : LinkTold) → IsFresh (Some told) link → link ≡ fresh_link
-fresh_told told link fresh = rw (fresh.told.0, fresh.told.1, fresh.read_all, fresh.wrote_all) refl
-
--- a door that doesn't tell its links tells nothing of one that is handed back
-done_untold : (link : LinkTold) → told_done link None ≡ None
-done_untold link = by_parts link.received link.taken refl refl where
-  by_parts : (r t : _) → link.received ≡ r → link.taken ≡ t → told_done link None ≡ None
-  by_parts r t is_r is_t = ?
-
 -- one more connection was served, and its link was handed back
 pub so_far_more : (base : State) (journal new : List Entry) (lane connections : ℕ) (first door between behind : Option DoorTold) (before calls started ended after : Option (List ClockCall)) (fresh link : LinkTold)
     → SoFar base journal lane connections first door before calls
@@ -140,13 +129,13 @@ pub so_far_more : (base : State) (journal new : List Entry) (lane connections : 
     → between ≡ option_map (accepted conn) door → behind ≡ told_done link between → ended ≡ after
     → SoFar base new lane (connections + 1) first behind before ended
 so_far_more base journal new lane connections None door between behind before calls started ended after fresh link so_far still alone is_fresh goes started_is serves between_is behind_is ended_is =
-    rw (behind_is, between_is, so_far) (done_untold link)
+    rw (behind_is, between_is, so_far) refl
 so_far_more base journal new lane connections (Some old) door between behind before calls started ended after fresh link so_far still alone is_fresh goes started_is serves between_is behind_is ended_is =
     let told = so_far.0 in
     let is_fresh' : IsFresh (Some told) fresh = subst (λ d. IsFresh d fresh) so_far.1 is_fresh in
-    let s : Serves base lane connections journal new calls after link = subst (λ c. Serves base lane connections journal new c after link) started_is (serves (fresh_told told fresh is_fresh')) in
-    let next = done_with (ended_link s.received s.written (link.read_faults + link.write_faults)) (accepted conn told) in (
-      next,
-      rw (behind_is, between_is, so_far.1, s.told, s.took) refl,
+    let s : Serves base lane connections journal new calls after link = subst (λ c. Serves base lane connections journal new c after link) started_is (serves is_fresh'.told) in
+    (
+      done_with s.session.link (accepted conn told),
+      rw (behind_is, between_is, so_far.1, s.link_is) refl,
       rw ended_is (one_more base journal new lane connections old told before calls after link so_far.2 still alone goes s),
     )

@@ -2,7 +2,8 @@
 use Rattle.std.proofs.Common.{◌≡◌, ◌≢◌, ℕ, ◌<◌, ◌≤◌, List, [], ◌∷◌, map, length, get_or, refl, sym, ◌∙◌, subst, arith, All, Option, Some, None, IfSome, option_map, inr}
 use Rattle.std.proofs.Math.ListN.{set}
 use Rattle.lg_io.specs.Clock.{ClockCall}
-use Rattle.lg_io.specs.Door.{DoorTold, DoorSeen, unused_door}
+use Rattle.lg_io.specs.Door.{DoorTold, unused_door}
+use Rattle.lg_io.specs.DoorSeen.{DoorSeen}
 use Rattle.lg_io.specs.Net.{BindCall}
 use Rattle.lg_io.specs.Tells.{TellsOn}
 use Rattle.luigid.specs.declared.audit.LifeEnd.{LifeEnd}
@@ -16,6 +17,7 @@ use Rattle.luigid.specs.State.{empty_state}
 use Rattle.luigid.proofs.Audits.{told_whole}
 use Rattle.luigid.specs.Headline.{EndsBy, HasLane, Outside, IsRun, IsLine, IsUntouched, IsServedLife, ServedLife, HasBinding, exit_of, the_bind, unused}
 use Rattle.luigid.specs.Journal.{NoneBehindEnd}
+use Rattle.luigid.specs.Lane.{IsLane}
 
 -- a list of one item
 pub only_item : {A : Type 0} (xs : List A) (d : A) → 1 ≤ length xs → length xs < 2 → xs ≡ get_or xs 0 d ∷ []
@@ -66,17 +68,19 @@ lane_of_unused : (base : State) (journal : List Entry) (end : LifeEnd) (first no
 lane_of_unused base journal end None now before calls was none lane = rw lane refl
 lane_of_unused base journal end (Some old) now before calls was none lane =
     let told : now ≡ Some lane.new = lane.tells in
+    let since : IsLane base journal 0 unused_door lane.new before calls lane.sessions =
+        subst (λ d. IsLane base journal 0 d lane.new before calls lane.sessions) was lane.is_lane in
     rw told (record {
       new = lane.new;
       tells = refl;
       sessions = lane.sessions;
       is_lane = record {
-        links = rw (← was) lane.is_lane.links;
-        all_back = rw (← was) lane.is_lane.all_back;
-        served = lane.is_lane.served;
-        made = lane.is_lane.made;
-        read = read_since before calls _ none lane.is_lane.read;
-        none_behind = lane.is_lane.none_behind;
+        links = since.links;
+        all_back = since.all_back;
+        served = since.served;
+        made = since.made;
+        read = read_since before calls _ none since.read;
+        none_behind = since.none_behind;
       };
       last = lane.last;
     }) where

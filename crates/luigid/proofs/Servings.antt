@@ -46,7 +46,7 @@ all_stay lane connection old new handled goes each =
 pub record IsHeard (base : State) (lane connection : ℕ) (old new : List Entry) (handled : List Handled) (left bytes : List ℕ) (before now : Option (List ClockCall)) : Type 0 where
   pub messages : All (λ (h : Handled). IsMessage h.message) handled
   pub received : bytes ≡ flat_map (λ (h : Handled). message_bytes h.message) handled ++ left
-  pub answered : Each (IsHandled new lane connection) handled
+  pub each : Each (IsHandled new lane connection) handled
   pub made : made_by lane (answered base new) ≡ made_by lane (answered base old) ++ filter_map (λ (h : Handled). h.call) handled
   pub read : TellsOn before now (map reading (flat_map (λ (h : Handled). h.moments) handled))
 
@@ -56,7 +56,7 @@ pub heard_nothing : (base : State) (lane connection : ℕ) (journal : List Entry
 heard_nothing base lane connection journal calls = record {
   messages = All-nil (λ (h : Handled). IsMessage h.message);
   received = refl;
-  answered = λ place item is. absurd (cc);
+  each = λ place item is. absurd (cc);
   made = sym (append-nil _);
   read = TellsOn-nothing calls;
 }
@@ -67,7 +67,7 @@ pub heard_rest : (base : State) (lane connection : ℕ) (old new : List Entry) (
 heard_rest base lane connection old new handled left got bytes before now heard = record {
   messages = heard.messages;
   received = rw heard.received (append_assoc _ left got);
-  answered = heard.answered;
+  each = heard.each;
   made = heard.made;
   read = heard.read;
 }
@@ -109,7 +109,7 @@ heard_more base lane connection old middle new handled left got left' bytes befo
     record {
       messages = All-push (λ (h : Handled). IsMessage h.message) handled h heard.messages (subst IsMessage (sym handles.message_is) is_message);
       received = bytes_more bytes left got left' handled h heard.received (rw handles.message_is next);
-      answered = Each-push _ handled h (all_stay lane connection middle new handled goes heard.answered) handles.is_handled;
+      each = Each-push _ handled h (all_stay lane connection middle new handled goes heard.each) handles.is_handled;
       made = made_more _ _ _ handled h heard.made handles.made;
       read = subst (TellsOn before after) (sym (read_more handled h)) (TellsOn-append before now after _ _ heard.read handles.read);
     }

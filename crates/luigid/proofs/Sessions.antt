@@ -9,8 +9,7 @@ use Rattle.lg_http.specs.declared.message.Next.{Next}
 use Rattle.lg_http.specs.Messages.{WholeMessage, message_bytes, IsMessage, IsBad}
 use Rattle.lg_io.specs.Cause.{HasCause}
 use Rattle.lg_io.specs.Clock.{ClockCall}
-use Rattle.lg_io.specs.Door.{EndedLink, ended_link}
-use Rattle.lg_io.specs.Link.{LinkTold, fresh_link}
+use Rattle.lg_io.specs.Link.{LinkTold, fresh_link, EndedLink, ended_with, link_faults}
 use Rattle.lg_io.specs.Sink.{WritesAll}
 use Rattle.lg_io.specs.Source.{Received, nothing_received}
 use Rattle.luigid.specs.declared.journal.Entry.{Entry}
@@ -57,25 +56,21 @@ serving_fresh base lane connection journal left calls link fresh empty = record 
 -- a session of what was heard and told
 abbrev pub session_of : Received → List ℕ → ℕ → List Handled → List ℕ → LinkEnd → Session
 session_of received written faults handled rest end =
-    record { link = ended_link received written faults; handled = handled; rest = rest; end = end }
+    record { link = ended_with received written faults; handled = handled; rest = rest; end = end }
 
 -- a connection that ended with a cause was served
 serves : (base : State) (lane connection : ℕ) (old new : List Entry) (handled : List Handled) (rest written : List ℕ) (before now : Option (List ClockCall)) (received : Received) (link : LinkTold) (end : LinkEnd)
     → IsHeard base lane connection old new handled rest received.bytes before now
     → link.received ≡ Some received → link.taken ≡ Some written → received.ended ≡ is_at_end end
-    → HasEnd end (session_of received written (link.read_faults + link.write_faults) handled rest end)
+    → HasEnd end (session_of received written (link_faults link) handled rest end)
     → Serves base lane connection old new before now link
 serves base lane connection old new handled rest written before now received link end heard told took ended has_end = record {
-  session = session_of received written (link.read_faults + link.write_faults) handled rest end;
-  received = received;
-  told = told;
-  written = written;
-  took = took;
-  link_is = refl;
+  session = session_of received written (link_faults link) handled rest end;
+  link_is = rw (told, took) refl;
   served = record {
     messages = heard.messages;
     received = heard.received;
-    answered = heard.answered;
+    answered = heard.each;
     ended = ended;
     has_end = has_end;
   };
@@ -85,14 +80,14 @@ serves base lane connection old new handled rest written before now received lin
 
 -- where nothing more was written, all responses were
 pub all_written : (handled : List Handled) (received : Received) (faults : ℕ) → faults ≡ 0
-    → IsWhole (spoken handled ++ []) (ended_link received (concat (spoken handled)) faults)
+    → IsWhole (spoken handled ++ []) (ended_with received (concat (spoken handled)) faults)
 all_written handled received faults none = record { written = ap concat (sym (append-nil (spoken handled))); fine = none }
 
 -- the connection ended where nothing more was written
 pub ends : (base : State) (lane connection : ℕ) (old new : List Entry) (count : ℕ) (left got : List ℕ) (before now : Option (List ClockCall)) (link link' : LinkTold) (answer : Next) (end : LinkEnd)
     → (s : IsServing base lane connection old new count left before now link) → HearsOn link.received link'.received answer got
     → link'.taken ≡ link.taken → ends_input answer ≡ is_at_end end
-    → ((r : Received) → HasEnd end (session_of r (concat (spoken s.handled)) (link'.read_faults + link'.write_faults) s.handled (left ++ got) end))
+    → ((r : Received) → HasEnd end (session_of r (concat (spoken s.handled)) (link_faults link') s.handled (left ++ got) end))
     → Serves base lane connection old new before now link'
 ends base lane connection old new count left got before now link link' answer end s hears taken ended has_end =
     let more = hears_some s.received link.received link'.received answer got s.told hears in
@@ -105,10 +100,10 @@ ends base lane connection old new count left got before now link link' answer en
 pub ends_unheard : (base : State) (lane connection : ℕ) (journal : List Entry) (calls : Option (List ClockCall)) (link : LinkTold)
     → link ≡ fresh_link → Serves base lane connection journal journal calls calls link
 ends_unheard base lane connection journal calls link fresh =
-    let none : link.read_faults + link.write_faults ≡ 0 = rw fresh refl in
+    let none : link_faults link ≡ 0 = rw fresh refl in
     serves base lane connection journal journal [] [] [] calls calls nothing_received link without_memory (heard_nothing base lane connection journal calls)
     (rw fresh refl) (rw fresh refl) refl
-    (All-nil GoesOn, inr (record { nothing_handled = refl; nothing_received = refl }), all_written [] nothing_received (link.read_faults + link.write_faults) none)
+    (All-nil GoesOn, inr (record { nothing_handled = refl; nothing_received = refl }), all_written [] nothing_received (link_faults link) none)
 
 -- the connection ended where no message stood
 pub ends_bad : {T E : Type 0} (base : State) (lane connection : ℕ) (old new : List Entry) (count : ℕ) (left got : List ℕ) (before now : Option (List ClockCall)) (link heard link' : LinkTold) (answer : Next) (status : ℕ) (result : Result T E)
@@ -143,7 +138,7 @@ pub record IsSpoken {T E : Type 0} (base : State) (lane connection : ℕ) (old n
   pub not_ended : received.ended ≡ false
   pub written : List ℕ
   pub took : link.taken ≡ Some written
-  pub outcome : Written result (spoken handled ++ response_of answer ∷ []) (ended_link received written (link.read_faults + link.write_faults))
+  pub outcome : Written result (spoken handled ++ response_of answer ∷ []) (ended_with received written (link_faults link))
   pub go_on : All GoesOn handled
 
 -- a connection that went on handles one more message

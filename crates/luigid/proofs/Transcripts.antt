@@ -3,7 +3,7 @@ use Rattle.std.proofs.Common.{◌≡◌, ℕ, ◌<◌, List, [], ◌∷◌, ◌+
 use Rattle.std.proofs.lemmas.List.{append-nil}
 use Rattle.std.specs.Prelude.{◌⊎◌}
 use Rattle.std.specs.List.{concat}
-use Rattle.lg_io.specs.Door.{EndedLink}
+use Rattle.lg_io.specs.Link.{EndedLink}
 use Rattle.lg_io.specs.Sink.{IsPrefix}
 use Rattle.luigid.specs.Session.{Session, LinkEnd, closed, at_end, unread, unwritten, without_memory, bad, HasEnd, IsWhole, IsUnread, IsCutShort, responses, transcript}
 use Rattle.luigid.proofs.Responses.{concat-push}

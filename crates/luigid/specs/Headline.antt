@@ -1,7 +1,8 @@
 -- The headline: what a run of the daemon is, for every list of words and every behaviour of the outside. This project's
 -- own.
 use Rattle.std.specs.Prelude.{◌≡◌, ℕ, ◌<◌, ◌≤◌, ◌↔◌, ◌⊎◌, true, false, List, [], ◌∷◌, ◌++◌, All, codes, Option, Some, None, IfSome, MatchOption, option_map}
-use Rattle.lg_io.specs.Door.{DoorTold, DoorSeen, conn, closed, failed, no_memory, unused_door}
+use Rattle.lg_io.specs.Door.{DoorTold, conn, closed, failed, no_memory, unused_door}
+use Rattle.lg_io.specs.DoorSeen.{DoorSeen}
 use Rattle.lg_io.specs.Net.{BindCall}
 use Rattle.lg_io.specs.Sink.{Takes, IsPrefix}
 use Rattle.lg_io.specs.Tells.{TellsOn}

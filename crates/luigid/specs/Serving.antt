@@ -1,9 +1,7 @@
 -- What serving one connection does to a life, for a link that tells what it received and took. This project's own.
-use Rattle.std.specs.Prelude.{◌≡◌, ℕ, ◌+◌, List, ◌++◌, map, Option, Some}
+use Rattle.std.specs.Prelude.{◌≡◌, ℕ, List, ◌++◌, map, Option, Some}
 use Rattle.lg_io.specs.Clock.{ClockCall, reading}
-use Rattle.lg_io.specs.Door.{ended_link}
-use Rattle.lg_io.specs.Link.{LinkTold}
-use Rattle.lg_io.specs.Source.{Received}
+use Rattle.lg_io.specs.Link.{LinkTold, ended_link}
 use Rattle.lg_io.specs.Tells.{TellsOn}
 use Rattle.luigid.specs.declared.journal.Entry.{Entry}
 use Rattle.luigid.specs.declared.state.State.{State}
@@ -14,11 +12,7 @@ use Rattle.luigid.specs.Session.{Session, calls_of, moments_of, IsServed}
 -- session's, in order, and the clock was read for them alone.
 pub record Serves (base : State) (lane connection : ℕ) (old new : List Entry) (before after : Option (List ClockCall)) (link : LinkTold) : Type 0 where
   pub session : Session
-  pub received : Received
-  pub told : link.received ≡ Some received
-  pub written : List ℕ
-  pub took : link.taken ≡ Some written
-  pub link_is : session.link ≡ ended_link received written (link.read_faults + link.write_faults)
+  pub link_is : ended_link link ≡ Some session.link
   pub served : IsServed new lane connection session
   pub made : made_by lane (answered base new) ≡ made_by lane (answered base old) ++ calls_of session
   pub read : TellsOn before after (map reading (moments_of session))

@@ -1,7 +1,7 @@
 -- One connection of a life: its messages, with their answers and their calls. This project's own.
 use Rattle.std.specs.Prelude.{◌≡◌, ℕ, ◌<◌, ◌≤◌, ◌⊎◌, Bool, true, false, List, [], ◌∷◌, ◌++◌, map, length, slice_get, All, Option, Some, None, Result, Ok, Err}
 use Rattle.std.specs.List.{concat, flat_map, filter_map}
-use Rattle.lg_io.specs.Door.{EndedLink}
+use Rattle.lg_io.specs.Link.{EndedLink}
 use Rattle.lg_io.specs.Sink.{IsPrefix}
 use Rattle.lg_json.specs.Tree.{Tree}
 use Rattle.lg_http.specs.Messages.{WholeMessage, message_bytes, IsMessage, IsBad, IsUndecided, WantsMemory}

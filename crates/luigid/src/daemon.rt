@@ -1,7 +1,7 @@
 //! The daemon: its words, its door, its life, and how it ends.
 ghost use Rattle.std.specs.Prelude.{◌≡◌, ◌↔◌, ◌⊎◌, [], ◌∷◌, ℕ, map, length, All, List, Err, IsTrue, IsErrOf, IfOk, OnOk, OnErr};
 ghost use Rattle.lg_io.specs.Cause.{HasCause};
-ghost use Rattle.lg_io.specs.Door.{DoorSeen};
+ghost use Rattle.lg_io.specs.DoorSeen.{DoorSeen};
 ghost use Rattle.lg_io.specs.Tells.{TellsOn};
 ghost use Rattle.luigid.specs.declared.exit.Exit.{Exit};
 ghost use Rattle.luigid.specs.declared.journal.Entry.{Entry};

@@ -1,7 +1,8 @@
 //! One lane: the links of a door, served one after another.
 ghost use Rattle.std.specs.Prelude.{◌≡◌, ◌≢◌, [], All, option_map};
 ghost use Rattle.lg_io.specs.declared.door.Accept.TheVariants.{Quiet};
-ghost use Rattle.lg_io.specs.Door.{accept_kind, accepted, DoorSeen, IfConn, IsFresh};
+ghost use Rattle.lg_io.specs.Door.{accept_kind, accepted, IfConn, IsFresh};
+ghost use Rattle.lg_io.specs.DoorSeen.{DoorSeen};
 ghost use Rattle.lg_io.specs.Link.{LinkTold};
 ghost use Rattle.luigid.specs.Headline.{EndsBy, HasLane};
 ghost use Rattle.luigid.specs.Said.{AreTexts};

@@ -1,5 +1,16 @@
-use Rattle.luigid.proofs.Consequences.{other_verb}
-use Rattle.luigid.proofs.laws.verb_first.Goals as goal
+use Rattle.std.proofs.Common.{codes, refl}
+use Rattle.luigid.proofs.Calls.{asks-none, asks-method}
+use Rattle.luigid.proofs.Consequences.{other_verb, unknown_path, unknown_method_path, no_resource, no_amount}
+use Rattle.luigid.proofs.laws.first_refusal.Goals as goal
 
 pub returns : goal.returns
-returns c = other_verb
+returns c = record {
+  verb = other_verb;
+  path = λ target body other. asks-none (codes "POST") target body _ (unknown_path _ other);
+  method = λ target body name is none. asks-none (codes "POST") target body _ (unknown_method_path _ name is none);
+  built = λ target body refusal is. asks-none (codes "POST") target body refusal is;
+  payload = λ target body method is. asks-method (codes "POST") target body method is;
+  arguments = λ method payload. refl;
+  resource = no_resource;
+  amount = no_amount;
+}

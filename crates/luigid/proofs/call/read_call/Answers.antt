@@ -3,7 +3,7 @@ use Rattle.luigid.specs.declared.method.Method.{Method}
 use Rattle.luigid.specs.declared.refusal.Refusal.{Refusal}
 use Rattle.luigid.specs.Call.{method_asked}
 use Rattle.luigid.proofs.Calls.{asks-none, wants-call}
-use Rattle.luigid.proofs.call.asked_by.Goals as goal
+use Rattle.luigid.proofs.call.read_call.Goals as goal
 
 -- what was found for the parts of a message
 found_for : (verb target seen at : List ℕ) (found value : Result Method Refusal) → seen ≡ verb → at ≡ target → found ≡ method_asked seen at → found ≡ value
