@@ -6,16 +6,16 @@ use Rattle.lg_http.specs.Fields.{content_length}
 use Rattle.lg_http.specs.Heads.{max_head, IsAccepted, IsHopeless}
 
 -- a request: its head, and its body as it was sent
-pub record Request : Type 0 where
+pub record WholeMessage : Type 0 where
   pub head : RequestHead
   pub body : List ℕ
 
 -- the bytes of a request
-abbrev pub message_bytes : Request → List ℕ
+abbrev pub message_bytes : WholeMessage → List ℕ
 message_bytes request = print_request request.head ++ request.body
 
 -- a whole message that is served
-pub record IsMessage (request : Request) : Type 0 where
+pub record IsMessage (request : WholeMessage) : Type 0 where
   pub grammar : IsRequestHead request.head
   pub short : length (print_request request.head) ≤ max_head
   pub accepted : IsAccepted request.head
@@ -61,6 +61,6 @@ abbrev pub IsUndecided : List ℕ → Type 0
 IsUndecided bytes = HasPartOfBody bytes ⊎ HasPartOfHead bytes
 
 -- The stream is these messages, one behind the other, and then the rest.
-pub record Splits (stream : List ℕ) (messages : List Request) (rest : List ℕ) : Type 0 where
+pub record Splits (stream : List ℕ) (messages : List WholeMessage) (rest : List ℕ) : Type 0 where
   pub whole : stream ≡ flat_map message_bytes messages ++ rest
   pub each : All IsMessage messages

@@ -1,9 +1,9 @@
 ghost use Rattle.std.specs.Prelude.{◌≡◌, ◌⊎◌, ℕ, List, ◌++◌};
-ghost use Rattle.lg_http.specs.Messages.{Request, Splits, IsBad, IsUndecided};
+ghost use Rattle.lg_http.specs.Messages.{WholeMessage, Splits, IsBad, IsUndecided};
 
 /// A stream is read in one way only: the messages and the rest behind them are determined by its bytes.
 pub fn one_reading()
-    ensures { (stream : List ℕ) (messages others : List Request) (rest left : List ℕ)
+    ensures { (stream : List ℕ) (messages others : List WholeMessage) (rest left : List ℕ)
         → Splits stream messages rest → IsBad rest ⊎ IsUndecided rest
         → Splits stream others left → IsBad left ⊎ IsUndecided left
         → (messages ≡ others) × (rest ≡ left) }
@@ -21,8 +21,8 @@ pub fn bad_stays()
 
 /// Messages at the front of a stream are its first, whatever stands behind them.
 pub fn first_messages()
-    ensures { (stream : List ℕ) (messages all : List Request) (behind rest : List ℕ)
+    ensures { (stream : List ℕ) (messages all : List WholeMessage) (behind rest : List ℕ)
         → Splits stream messages behind
         → Splits stream all rest → IsBad rest ⊎ IsUndecided rest
-        → (more : List Request) × (all ≡ messages ++ more) }
+        → (more : List WholeMessage) × (all ≡ messages ++ more) }
 {}

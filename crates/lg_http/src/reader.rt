@@ -4,7 +4,7 @@ ghost use Rattle.lg_io.specs.Cause.{HasCause};
 ghost use Rattle.lg_http.specs.Answers.{Gave, Reads, ending_of};
 
 use crate::incoming::Incoming;
-use crate::{Ending, Next};
+use crate::{Next, ReaderEnd};
 use lg_base::NoMemory;
 use lg_io::Source;
 use std::alloc::Global;
@@ -14,14 +14,14 @@ use std::marker::Model;
 #[derive(Drop)]
 pub struct Reader {
     incoming: Incoming,
-    over: Option<Ending>,
+    over: Option<ReaderEnd>,
 }
 
 impl Model for Reader {
-    ghost use Rattle.lg_http.specs.Reading.{Reading};
+    ghost use Rattle.lg_http.specs.ReaderView.{ReaderView};
     ghost use Rattle.lg_http.specs.Incoming.{IsSound, bytes_of};
 
-    ghost Value = { Reading };
+    ghost Value = { ReaderView };
 
     ghost view = { λ r. record { left = bytes_of r.incoming; over = r.over } };
 
@@ -49,11 +49,11 @@ impl Reader {
         ensures cause { self.old.over ≡ None → HasCause (R.faults source.old) (R.faults source.new) (result ≡ Failed) }
         ensures rest { R.rest source.new ≡ R.rest source.old }
     {
-        if let Some(ending) = self.over {
-            return ending.answer();
+        if let Some(end) = self.over {
+            return end.answer();
         }
         let answer = self.incoming.next(alloc, source);
-        self.over = answer.ending();
+        self.over = answer.end();
         answer
     }
 }
