@@ -8,7 +8,7 @@ use Rattle.httparse.proofs.GrammarLemmas.{request_unique, ReadsRequest-append}
 use Rattle.lg_http.proofs.HopeLemmas.{append_cut}
 use Rattle.lg_http.specs.Fields.{content_length}
 use Rattle.lg_http.specs.Heads.{IsAccepted}
-use Rattle.lg_http.specs.Messages.{IsOverlong, WholeMessage, message_bytes, IsMessage, BeginsWith, HasHopelessFront, IsBad, IsUndecided}
+use Rattle.lg_http.specs.Messages.{IsOverlong, WholeMessage, message_bytes, IsMessage, BeginsWith, HasServedHead, HasHopelessFront, IsBad, IsUndecided}
 
 -- a served head whose body isn't whole
 abbrev IsShort : RequestHead → List ℕ → Type 0
@@ -118,17 +118,20 @@ reading_front (m ∷ ms) (n ∷ ns) r q x y v e =
     let more = reading_front ms ns r q (All-tail IsMessage m ms x) (All-tail IsMessage n ns y) v first.1 in
     (more.0, cc (first.0, more.1))
 
--- what is bad is not cut short
-pub bad_not_undecided : (rest : List ℕ) → IsBad rest → ¬ (IsUndecided rest)
-bad_not_undecided rest (inl (head, more, begins, refused)) (inl (other, left, starts, accepted, less)) =
+-- what is bad has no served head at its front
+pub bad_not_served : (rest : List ℕ) → IsBad rest → ¬ (HasServedHead rest)
+bad_not_served rest (inl (head, more, begins, refused)) (other, left, starts, accepted) =
     let same = request_unique rest head other more left begins.reads starts.reads in
     refused (subst IsAccepted (sym same.0) accepted)
-bad_not_undecided rest (inl (head, more, begins, refused)) (inr part) = part.headless head more begins.reads
-bad_not_undecided rest (inr (inl hopeless)) (inl (other, left, starts, accepted, less)) =
+bad_not_served rest (inr (inl hopeless)) (other, left, starts, accepted) =
     never_hopeless rest other left starts.reads hopeless
+bad_not_served rest (inr (inr long)) (other, left, starts, accepted) = long.headless other left starts
+
+-- what is bad is not cut short
+pub bad_not_undecided : (rest : List ℕ) → IsBad rest → ¬ (IsUndecided rest)
+bad_not_undecided rest bad (inl (head, more, begins, accepted, less)) = bad_not_served rest bad (head, more, begins, accepted)
+bad_not_undecided rest (inl (head, more, begins, refused)) (inr part) = part.headless head more begins.reads
 bad_not_undecided rest (inr (inl hopeless)) (inr part) = part.hopeful hopeless
-bad_not_undecided rest (inr (inr long)) (inl (other, left, starts, accepted, less)) =
-    long.headless other left starts
 bad_not_undecided rest (inr (inr long)) (inr part) = omega (arith, long.full, part.short)
 
 -- as many bytes as are looked at have no head, whatever follows

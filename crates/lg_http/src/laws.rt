@@ -1,5 +1,5 @@
 ghost use Rattle.std.specs.Prelude.{◌≡◌, ◌⊎◌, ℕ, List, ◌++◌};
-ghost use Rattle.lg_http.specs.Messages.{WholeMessage, Splits, IsBad, IsUndecided};
+ghost use Rattle.lg_http.specs.Messages.{WholeMessage, Splits, HasServedHead, IsBad, IsUndecided};
 
 /// A stream is read in one way only: the messages and the rest behind them are determined by its bytes.
 pub fn one_reading()
@@ -12,6 +12,11 @@ pub fn one_reading()
 /// A rest that is bad is not one that still may become a message.
 pub fn never_both()
     ensures { (rest : List ℕ) → IsBad rest → ¬ IsUndecided rest }
+{}
+
+/// Where what stands at the front is bad no head is served: memory for one isn't wanted there.
+pub fn bad_is_not_served()
+    ensures { (rest : List ℕ) → IsBad rest → ¬ HasServedHead rest }
 {}
 
 /// What is bad stays bad, whatever bytes follow.

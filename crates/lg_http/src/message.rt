@@ -4,7 +4,7 @@ ghost use Rattle.lg_http.specs.Answers.{ending_of};
 use crate::ReaderEnd;
 use lg_base::Text;
 
-/// A request.
+/// A message, once it is whole.
 #[derive(Drop)]
 pub struct Message {
     /// The method, as `POST`.
