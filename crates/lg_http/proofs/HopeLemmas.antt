@@ -6,12 +6,12 @@ use Rattle.std.proofs.lemmas.Bool.{ltb-true, ne_eqb, and_parts}
 use Rattle.std.proofs.lemmas.List.Elements.{All-head, All-tail, All-cons, All-nil, All-weaker}
 use Rattle.httparse.specs.Grammar.{is_uri_byte, IsToken, AllPass, LineEnd, lf, print_end, print_blank, Field, print_field, RequestHead, print_request, ReadsRequest, HasNoRequest, NeverHasRequest, MayBecomeRequest}
 use Rattle.httparse.specs.Pieces.{Then, Completes, Section, RequestStart}
-use Rattle.httparse.specs.Spans.{RequestExceeds}
+use Rattle.httparse.specs.Spans.{RequestExceeds, RequestOverflows}
 use Rattle.httparse.proofs.PieceLemmas.{Blank_deterministic, Method_deterministic, Stops_token}
 use Rattle.httparse.proofs.GrammarLemmas.{request_head, request_from_pieces}
 use Rattle.httparse.proofs.OpenLemmas.{Completes_first, Completes_next, some_target, some_version, some_newline, some_section}
-use Rattle.lg_http.specs.Heads.{is_target_byte, IsInTarget}
-use Rattle.lg_http.specs.Messages.{HasHopelessFront}
+use Rattle.lg_http.specs.Heads.{max_head, is_target_byte, IsInTarget}
+use Rattle.lg_http.specs.Messages.{HasHopelessFront, IsRefused}
 
 -- of two cuts of one list one is no later than the other
 pub append_cut : (a b x t : List ℕ) → a ++ b ≡ x ++ t
@@ -119,3 +119,13 @@ no_more_fields bytes (front, rest, split, head, reads, more) =
       ap length (reads.1 ∙ append-nil (print_request head)),
       length-append front (print_end lf),
     )
+
+-- a whole head with more fields than are served
+pub long_refused : (bytes : List ℕ) (head : RequestHead) (rest : List ℕ) → length bytes ≤ max_head
+    → RequestOverflows 64 bytes → ReadsRequest bytes head rest → IsRefused bytes
+long_refused bytes head rest short long reads = (
+  head,
+  rest,
+  record { reads = reads; short = omega (arith, short, ap length reads.1, length-append (print_request head) rest) },
+  λ accepted. absurd (omega (arith, accepted.few_fields, long [] head rest (subst (λ (b : List ℕ). ReadsRequest b head rest) (sym (append-nil bytes)) reads))),
+)

@@ -13,7 +13,7 @@ use Rattle.lg_http.specs.Arrival.{Arrival, Begins}
 use Rattle.lg_http.specs.Decisions.{IsHeadAt}
 use Rattle.lg_http.specs.Heads.{max_head}
 use Rattle.lg_http.specs.Incoming.{IsArriving, IsKept, kept_bytes}
-use Rattle.lg_http.specs.Messages.{Request, message_bytes, IsMessage, IsUndecided}
+use Rattle.lg_http.specs.Messages.{WholeMessage, message_bytes, IsMessage, IsUndecided}
 
 -- a message with the parts of an arrival
 pub record IsOf (message : Message) (arrival : Arrival) : Type 0 where
@@ -26,7 +26,7 @@ pub record IsOf (message : Message) (arrival : Arrival) : Type 0 where
 -- a message is whole, and left is what stands behind it
 abbrev pub IsFound : Message → List ℕ → List ℕ → Type 0
 IsFound message bytes left =
-    (request : Request) × IsMessage request × Shows message request × (bytes ≡ message_bytes request ++ left)
+    (whole : WholeMessage) × IsMessage whole × Shows message whole × (bytes ≡ message_bytes whole ++ left)
 
 -- the body that arrived is whole
 pub body_found : (window left : List ℕ) (arrival : Arrival) (head : RequestHead) (message : Message)

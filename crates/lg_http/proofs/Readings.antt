@@ -8,17 +8,17 @@ use Rattle.httparse.proofs.GrammarLemmas.{request_unique, ReadsRequest-append}
 use Rattle.lg_http.proofs.HopeLemmas.{append_cut}
 use Rattle.lg_http.specs.Fields.{content_length}
 use Rattle.lg_http.specs.Heads.{IsAccepted}
-use Rattle.lg_http.specs.Messages.{IsOverlong, Request, message_bytes, IsMessage, BeginsWith, HasHopelessFront, IsBad, IsUndecided}
+use Rattle.lg_http.specs.Messages.{IsOverlong, WholeMessage, message_bytes, IsMessage, BeginsWith, HasServedHead, HasHopelessFront, IsBad, IsUndecided}
 
 -- a served head whose body isn't whole
 abbrev IsShort : RequestHead → List ℕ → Type 0
 IsShort head rest = IsSomeAnd (content_length head) (λ n. length rest < n)
 
 -- what is at the front of a stream whose first bytes are a message
-pub front_of : (request : Request) (rest : List ℕ) → IsMessage request
-    → BeginsWith (message_bytes request ++ rest) request.head (request.body ++ rest)
-front_of request rest is = record {
-  reads = (is.grammar, append_assoc (print_request request.head) request.body rest);
+pub front_of : (message : WholeMessage) (rest : List ℕ) → IsMessage message
+    → BeginsWith (message_bytes message ++ rest) message.head (message.body ++ rest)
+front_of message rest is = record {
+  reads = (is.grammar, append_assoc (print_request message.head) message.body rest);
   short = is.short;
 }
 
@@ -29,14 +29,14 @@ never_hopeless bytes head rest reads (front, more, split, fits, hopeless) =
     hopeless.never more head rest (subst (λ (s : List ℕ). ReadsRequest s head rest) split reads)
 
 -- a message is not bad
-pub message_not_bad : (request : Request) (rest : List ℕ) → IsMessage request
-    → ¬ (IsBad (message_bytes request ++ rest))
-message_not_bad request rest is (inl (head, more, begins, refused)) =
-    let same = request_unique _ head request.head _ _ begins.reads (front_of request rest is).reads in
+pub message_not_bad : (message : WholeMessage) (rest : List ℕ) → IsMessage message
+    → ¬ (IsBad (message_bytes message ++ rest))
+message_not_bad message rest is (inl (head, more, begins, refused)) =
+    let same = request_unique _ head message.head _ _ begins.reads (front_of message rest is).reads in
     refused (subst IsAccepted (sym same.0) is.accepted)
-message_not_bad request rest is (inr (inl hopeless)) =
-    never_hopeless _ request.head _ (front_of request rest is).reads hopeless
-message_not_bad request rest is (inr (inr long)) = long.headless request.head _ (front_of request rest is)
+message_not_bad message rest is (inr (inl hopeless)) =
+    never_hopeless _ message.head _ (front_of message rest is).reads hopeless
+message_not_bad message rest is (inr (inr long)) = long.headless message.head _ (front_of message rest is)
 
 too_short : (told : Option ℕ) (n : ℕ) (body rest : List ℕ) → told ≡ Some (length body)
     → IsSomeAnd told (λ n. length (body ++ rest) < n) → ⊥
@@ -45,22 +45,22 @@ too_short (Some m) n body rest is less =
     let e : m ≡ length body = cc in omega (arith, e, less, length-append body rest)
 
 -- and not cut short
-pub message_not_undecided : (request : Request) (rest : List ℕ) → IsMessage request
-    → ¬ (IsUndecided (message_bytes request ++ rest))
-message_not_undecided request rest is (inl (head, more, begins, accepted, less)) =
-    let same = request_unique _ head request.head _ _ begins.reads (front_of request rest is).reads in
-    too_short (content_length head) 0 request.body rest (ap content_length same.0 ∙ is.whole)
+pub message_not_undecided : (message : WholeMessage) (rest : List ℕ) → IsMessage message
+    → ¬ (IsUndecided (message_bytes message ++ rest))
+message_not_undecided message rest is (inl (head, more, begins, accepted, less)) =
+    let same = request_unique _ head message.head _ _ begins.reads (front_of message rest is).reads in
+    too_short (content_length head) 0 message.body rest (ap content_length same.0 ∙ is.whole)
     (subst (λ (s : List ℕ). IsShort head s) same.1 less)
-message_not_undecided request rest is (inr part) =
-    part.headless request.head _ (front_of request rest is).reads
+message_not_undecided message rest is (inr part) =
+    part.headless message.head _ (front_of message rest is).reads
 
 abbrev IsRest : List ℕ → Type 0
 IsRest rest = IsBad rest ⊎ IsUndecided rest
 
-message_not_rest : (request : Request) (rest : List ℕ) → IsMessage request
-    → ¬ (IsRest (message_bytes request ++ rest))
-message_not_rest request rest is (inl bad) = message_not_bad request rest is bad
-message_not_rest request rest is (inr undecided) = message_not_undecided request rest is undecided
+message_not_rest : (message : WholeMessage) (rest : List ℕ) → IsMessage message
+    → ¬ (IsRest (message_bytes message ++ rest))
+message_not_rest message rest is (inl bad) = message_not_bad message rest is bad
+message_not_rest message rest is (inr undecided) = message_not_undecided message rest is undecided
 
 -- two fronts of one length and the rests behind them
 pub append_split : (a b r q : List ℕ) → length a ≡ length b → a ++ r ≡ b ++ q → (a ≡ b) × (r ≡ q)
@@ -73,7 +73,7 @@ append_split (x ∷ a) (y ∷ b) r q same e =
     (cc (first, more.0), more.1)
 
 -- one message is read in one way
-message_unique : (a b : Request) (r q : List ℕ) → IsMessage a → IsMessage b
+message_unique : (a b : WholeMessage) (r q : List ℕ) → IsMessage a → IsMessage b
     → message_bytes a ++ r ≡ message_bytes b ++ q → (a ≡ b) × (r ≡ q)
 message_unique a b r q x y e =
     let bytes = message_bytes b ++ q in
@@ -84,7 +84,7 @@ message_unique a b r q x y e =
     (λ i. record { head = same.0 i; body = rests.0 i }, rests.1)
 
 -- a stream is read in one way
-pub reading_unique : (ms ns : List Request) (r q : List ℕ)
+pub reading_unique : (ms ns : List WholeMessage) (r q : List ℕ)
     → All IsMessage ms → All IsMessage ns → IsRest r → IsRest q
     → flat_map message_bytes ms ++ r ≡ flat_map message_bytes ns ++ q → (ms ≡ ns) × (r ≡ q)
 reading_unique [] [] r q x y u v e = (refl, e)
@@ -103,9 +103,9 @@ reading_unique (m ∷ ms) (n ∷ ns) r q x y u v e =
     (cc (first.0, more.0), more.1)
 
 -- messages at the front of a stream are its first, whatever stands behind them
-pub reading_front : (ms ns : List Request) (r q : List ℕ)
+pub reading_front : (ms ns : List WholeMessage) (r q : List ℕ)
     → All IsMessage ms → All IsMessage ns → IsRest q
-    → flat_map message_bytes ms ++ r ≡ flat_map message_bytes ns ++ q → (more : List Request) × (ns ≡ ms ++ more)
+    → flat_map message_bytes ms ++ r ≡ flat_map message_bytes ns ++ q → (more : List WholeMessage) × (ns ≡ ms ++ more)
 reading_front [] ns r q x y v e = (ns, refl)
 reading_front (m ∷ ms) [] r q x y v e =
     absurd (message_not_rest m (flat_map message_bytes ms ++ r) (All-head IsMessage m ms x)
@@ -118,17 +118,20 @@ reading_front (m ∷ ms) (n ∷ ns) r q x y v e =
     let more = reading_front ms ns r q (All-tail IsMessage m ms x) (All-tail IsMessage n ns y) v first.1 in
     (more.0, cc (first.0, more.1))
 
--- what is bad is not cut short
-pub bad_not_undecided : (rest : List ℕ) → IsBad rest → ¬ (IsUndecided rest)
-bad_not_undecided rest (inl (head, more, begins, refused)) (inl (other, left, starts, accepted, less)) =
+-- what is bad has no served head at its front
+pub bad_not_served : (rest : List ℕ) → IsBad rest → ¬ (HasServedHead rest)
+bad_not_served rest (inl (head, more, begins, refused)) (other, left, starts, accepted) =
     let same = request_unique rest head other more left begins.reads starts.reads in
     refused (subst IsAccepted (sym same.0) accepted)
-bad_not_undecided rest (inl (head, more, begins, refused)) (inr part) = part.headless head more begins.reads
-bad_not_undecided rest (inr (inl hopeless)) (inl (other, left, starts, accepted, less)) =
+bad_not_served rest (inr (inl hopeless)) (other, left, starts, accepted) =
     never_hopeless rest other left starts.reads hopeless
+bad_not_served rest (inr (inr long)) (other, left, starts, accepted) = long.headless other left starts
+
+-- what is bad is not cut short
+pub bad_not_undecided : (rest : List ℕ) → IsBad rest → ¬ (IsUndecided rest)
+bad_not_undecided rest bad (inl (head, more, begins, accepted, less)) = bad_not_served rest bad (head, more, begins, accepted)
+bad_not_undecided rest (inl (head, more, begins, refused)) (inr part) = part.headless head more begins.reads
 bad_not_undecided rest (inr (inl hopeless)) (inr part) = part.hopeful hopeless
-bad_not_undecided rest (inr (inr long)) (inl (other, left, starts, accepted, less)) =
-    long.headless other left starts
 bad_not_undecided rest (inr (inr long)) (inr part) = omega (arith, long.full, part.short)
 
 -- as many bytes as are looked at have no head, whatever follows

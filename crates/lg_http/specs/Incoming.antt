@@ -5,7 +5,7 @@ use Rattle.lg_http.specs.Fields.{content_length}
 use Rattle.lg_http.specs.Heads.{max_head, IsAccepted}
 use Rattle.lg_http.specs.Arrival.{Arrival}
 use Rattle.lg_http.specs.Answers.{Shows}
-use Rattle.lg_http.specs.Messages.{Request, message_bytes, IsMessage, IsBad, IsUndecided}
+use Rattle.lg_http.specs.Messages.{WholeMessage, message_bytes, IsMessage, IsBad, IsUndecided, WantsMemory}
 use Rattle.lg_http.specs.declared.incoming.Incoming.{Incoming}
 use Rattle.lg_http.specs.declared.message.Next.{Next}
 use Rattle.lg_http.specs.declared.message.Next.TheVariants as Answer
@@ -62,10 +62,10 @@ abbrev pub Finds : Incoming → Option Next → Incoming → Type 0
 Finds old None new =
     (bytes_of new ≡ bytes_of old) × IsUndecided (bytes_of old) × HasRoom new × (room_of new ≤ room_of old)
 Finds old (Some (Answer.Message message)) new =
-    (request : Request) × IsMessage request × Shows message request × (bytes_of old ≡ message_bytes request ++ bytes_of new)
+    (whole : WholeMessage) × IsMessage whole × Shows message whole × (bytes_of old ≡ message_bytes whole ++ bytes_of new)
 Finds old (Some Answer.End) new = ⊥
 Finds old (Some (Answer.Bad status)) new = (status ≡ 400) × (bytes_of new ≡ bytes_of old) × IsBad (bytes_of old)
 Finds old (Some Answer.Torn) new = ⊥
 Finds old (Some Answer.Quiet) new = ⊥
 Finds old (Some Answer.Failed) new = ⊥
-Finds old (Some Answer.NoMemory) new = bytes_of new ≡ bytes_of old
+Finds old (Some Answer.NoMemory) new = (bytes_of new ≡ bytes_of old) × WantsMemory (bytes_of old)

@@ -1,7 +1,7 @@
 pub mod Fields
 pub mod Heads
 pub mod Messages
-pub mod Reading
+pub mod ReaderView
 pub mod Answers
 pub mod Decisions
 pub mod Given

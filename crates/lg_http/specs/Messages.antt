@@ -2,29 +2,34 @@
 use Rattle.std.specs.Prelude.{◌≡◌, ℕ, ◌<◌, ◌≤◌, ◌⊎◌, List, ◌++◌, length, Some, All, IsSomeAnd}
 use Rattle.std.specs.List.{flat_map}
 use Rattle.httparse.specs.Grammar.{RequestHead, print_request, IsRequestHead, ReadsRequest, HasNoRequest}
+use Rattle.httparse.specs.Spans.{RequestExceeds}
 use Rattle.lg_http.specs.Fields.{content_length}
 use Rattle.lg_http.specs.Heads.{max_head, IsAccepted, IsHopeless}
 
--- a request: its head, and its body as it was sent
-pub record Request : Type 0 where
+-- a message as it came: its head, and its body as it was sent
+pub record WholeMessage : Type 0 where
   pub head : RequestHead
   pub body : List ℕ
 
--- the bytes of a request
-abbrev pub message_bytes : Request → List ℕ
-message_bytes request = print_request request.head ++ request.body
+-- the bytes of a message
+abbrev pub message_bytes : WholeMessage → List ℕ
+message_bytes message = print_request message.head ++ message.body
 
 -- a whole message that is served
-pub record IsMessage (request : Request) : Type 0 where
-  pub grammar : IsRequestHead request.head
-  pub short : length (print_request request.head) ≤ max_head
-  pub accepted : IsAccepted request.head
-  pub whole : content_length request.head ≡ Some (length request.body)
+pub record IsMessage (message : WholeMessage) : Type 0 where
+  pub grammar : IsRequestHead message.head
+  pub short : length (print_request message.head) ≤ max_head
+  pub accepted : IsAccepted message.head
+  pub whole : content_length message.head ≡ Some (length message.body)
 
 -- bytes begins with this head, within the bytes that are looked at for one, and goes on with rest
 pub record BeginsWith (bytes : List ℕ) (head : RequestHead) (rest : List ℕ) : Type 0 where
   pub reads : ReadsRequest bytes head rest
   pub short : length (print_request head) ≤ max_head
+
+-- a head is at the front that is served
+abbrev pub HasServedHead : List ℕ → Type 0
+HasServedHead bytes = (head : RequestHead) × (rest : List ℕ) × BeginsWith bytes head rest × IsAccepted head
 
 -- a head is at the front that is not served
 abbrev pub IsRefused : List ℕ → Type 0
@@ -60,7 +65,16 @@ pub record HasPartOfHead (bytes : List ℕ) : Type 0 where
 abbrev pub IsUndecided : List ℕ → Type 0
 IsUndecided bytes = HasPartOfBody bytes ⊎ HasPartOfHead bytes
 
+-- the lines of a front are those of a head with more than 64 fields, be it whole or not
+abbrev pub HasManyFields : List ℕ → Type 0
+HasManyFields bytes =
+    (front : List ℕ) × (rest : List ℕ) × (bytes ≡ front ++ rest) × (length front ≤ max_head) × RequestExceeds 64 front
+
+-- Where a reader takes memory: for a whole head that is served, or to look at more fields than it has room for.
+abbrev pub WantsMemory : List ℕ → Type 0
+WantsMemory bytes = HasServedHead bytes ⊎ HasManyFields bytes
+
 -- The stream is these messages, one behind the other, and then the rest.
-pub record Splits (stream : List ℕ) (messages : List Request) (rest : List ℕ) : Type 0 where
+pub record Splits (stream : List ℕ) (messages : List WholeMessage) (rest : List ℕ) : Type 0 where
   pub whole : stream ≡ flat_map message_bytes messages ++ rest
   pub each : All IsMessage messages

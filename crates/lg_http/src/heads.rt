@@ -2,7 +2,7 @@
 ghost use Rattle.std.specs.Prelude.{◌≡◌, ℕ, ◌≤◌, List, length, IfSome, IsSomeAnd, IsNone, IsFalse, Some};
 ghost use Rattle.http1.specs.Fields.{Header, known_fields};
 ghost use Rattle.httparse.specs.Grammar.{RequestHead, HasNoRequest, NeverHasRequest};
-ghost use Rattle.httparse.specs.Spans.{IsRequestAt, IsRequestWithin, IsRequestOf, RequestOverflows};
+ghost use Rattle.httparse.specs.Spans.{IsRequestAt, IsRequestWithin, IsRequestOf, RequestOverflows, RequestExceeds};
 ghost use Rattle.lg_http.specs.Decisions.{Decides};
 ghost use Rattle.lg_http.specs.Fields.{content_length, length_in, closes_in, is_encoded_in};
 ghost use Rattle.lg_http.specs.Heads.{max_head, IsAccepted};
@@ -39,6 +39,7 @@ pub(crate) enum Decision {
     Bad,
     /// A head may still come.
     NotYet,
+    /// There are more fields than there is room for, and no memory to look at them all.
     NoMemory,
 }
 
@@ -60,6 +61,7 @@ pub(crate) fn decide(alloc: Global, bytes: &[u8]) -> Decision
 fn decide_long(alloc: Global, bytes: &[u8]) -> Decision
     requires short { length bytes.now ≤ max_head }
     requires long { RequestOverflows 64 bytes.now }
+    requires many { RequestExceeds 64 bytes.now }
     ensures { Decides bytes.now result }
 {
     // Each field takes more than one byte, so there is room for all of them.

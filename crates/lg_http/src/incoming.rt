@@ -1,12 +1,13 @@
 //! The message that comes: its head in the window, and then its body beside it.
-ghost use Rattle.std.specs.Prelude.{◌≡◌, ℕ, ◌+◌, List, [], ◌++◌, length, Some, None, IfOk, IsTrue, ◌↔◌, option_map};
+ghost use Rattle.std.specs.Prelude.{◌≡◌, ◌⊎◌, ℕ, ◌+◌, List, [], ◌++◌, length, Some, None, IfOk, IsTrue, ◌↔◌, option_map};
 ghost use Rattle.lg_io.specs.declared.source.ReadStep.TheVariants.{Failed};
 ghost use Rattle.lg_http.specs.declared.message.Next.TheVariants as Answer;
-ghost use Rattle.lg_http.specs.Answers.{Gave, Reads};
+ghost use Rattle.lg_http.specs.Answers.{Hears, Reads};
 ghost use Rattle.lg_io.specs.Cause.{HasCause};
 ghost use Rattle.lg_io.specs.Source.{received_after};
 ghost use Rattle.lg_http.specs.Given.{IsGiven};
 ghost use Rattle.lg_http.specs.Incoming.{IsKept, IsSound, HasRoom, bytes_of, room_of, Finds};
+ghost use Rattle.lg_http.specs.Messages.{IsUndecided};
 
 use crate::Next;
 use crate::arriving::Arriving;
@@ -110,8 +111,9 @@ impl Incoming {
     /// The next answer, with as many reads as it takes.
     pub(crate) fn next<R: Source>(&mut self, alloc: Global, source: &mut R) -> Next
         requires { IsSound self.old }
-        ensures reads { (got : List ℕ) × Gave (R.received source.old) (R.received source.new) got
-            × Reads (bytes_of self.old ++ got) result (bytes_of self.new) (R.received source.new) }
+        ensures reads { (got : List ℕ) × Hears (R.received source.old) result got (R.received source.new)
+            × Reads (bytes_of self.old ++ got) result (bytes_of self.new) }
+        ensures asks { IsUndecided (bytes_of self.old) ⊎ (source.new ≡ source.old) }
         ensures sound { IsSound self.new }
         ensures cause { HasCause (R.faults source.old) (R.faults source.new) (result ≡ Answer.Failed) }
         ensures rest { R.rest source.new ≡ R.rest source.old }

@@ -1,9 +1,9 @@
 ghost use Rattle.std.specs.Prelude.{◌≡◌, ◌⊎◌, ℕ, List, ◌++◌};
-ghost use Rattle.lg_http.specs.Messages.{Request, Splits, IsBad, IsUndecided};
+ghost use Rattle.lg_http.specs.Messages.{WholeMessage, Splits, HasServedHead, IsBad, IsUndecided};
 
 /// A stream is read in one way only: the messages and the rest behind them are determined by its bytes.
 pub fn one_reading()
-    ensures { (stream : List ℕ) (messages others : List Request) (rest left : List ℕ)
+    ensures { (stream : List ℕ) (messages others : List WholeMessage) (rest left : List ℕ)
         → Splits stream messages rest → IsBad rest ⊎ IsUndecided rest
         → Splits stream others left → IsBad left ⊎ IsUndecided left
         → (messages ≡ others) × (rest ≡ left) }
@@ -14,6 +14,11 @@ pub fn never_both()
     ensures { (rest : List ℕ) → IsBad rest → ¬ IsUndecided rest }
 {}
 
+/// Where what stands at the front is bad no head is served: memory for one isn't wanted there.
+pub fn bad_is_not_served()
+    ensures { (rest : List ℕ) → IsBad rest → ¬ HasServedHead rest }
+{}
+
 /// What is bad stays bad, whatever bytes follow.
 pub fn bad_stays()
     ensures { (rest more : List ℕ) → IsBad rest → IsBad (rest ++ more) }
@@ -21,8 +26,8 @@ pub fn bad_stays()
 
 /// Messages at the front of a stream are its first, whatever stands behind them.
 pub fn first_messages()
-    ensures { (stream : List ℕ) (messages all : List Request) (behind rest : List ℕ)
+    ensures { (stream : List ℕ) (messages all : List WholeMessage) (behind rest : List ℕ)
         → Splits stream messages behind
         → Splits stream all rest → IsBad rest ⊎ IsUndecided rest
-        → (more : List Request) × (all ≡ messages ++ more) }
+        → (more : List WholeMessage) × (all ≡ messages ++ more) }
 {}

@@ -2,20 +2,20 @@
 #![tactic(auto)]
 
 mod arriving;
-mod ending;
 mod heads;
 mod incoming;
 mod laws;
 mod message;
 mod reader;
+mod reader_end;
 mod response;
 mod target;
 mod window;
 
-pub use ending::Ending;
-pub use laws::{bad_stays, first_messages, never_both, one_reading};
+pub use laws::{bad_is_not_served, bad_stays, first_messages, never_both, one_reading};
 pub use message::{Message, Next};
 pub use reader::Reader;
+pub use reader_end::ReaderEnd;
 pub use response::respond;
 
 #[cfg(test)]

@@ -1,10 +1,10 @@
 ghost use Rattle.std.specs.Prelude.{◌≡◌};
 ghost use Rattle.lg_http.specs.Answers.{ending_of};
 
-use crate::Ending;
+use crate::ReaderEnd;
 use lg_base::Text;
 
-/// A request.
+/// A message, once it is whole.
 #[derive(Drop)]
 pub struct Message {
     /// The method, as `POST`.
@@ -39,16 +39,16 @@ pub enum Next {
 
 impl Next {
     /// Why this answer is the last, if it is.
-    pub(crate) fn ending(&self) -> Option<Ending>
+    pub(crate) fn end(&self) -> Option<ReaderEnd>
         ensures { result ≡ ending_of self.now }
     {
         match self {
             Next::Message(_) | Next::Quiet => None,
-            Next::End => Some(Ending::Ended),
-            Next::Bad(status) => Some(Ending::Bad(*status)),
-            Next::Torn => Some(Ending::Torn),
-            Next::Failed => Some(Ending::Failed),
-            Next::NoMemory => Some(Ending::NoMemory),
+            Next::End => Some(ReaderEnd::Ended),
+            Next::Bad(status) => Some(ReaderEnd::Bad(*status)),
+            Next::Torn => Some(ReaderEnd::Torn),
+            Next::Failed => Some(ReaderEnd::Failed),
+            Next::NoMemory => Some(ReaderEnd::NoMemory),
         }
     }
 }

@@ -1,10 +1,11 @@
-ghost use Rattle.std.specs.Prelude.{◌≡◌, ℕ, List, [], ◌++◌, None, IsSome, IfOk};
+ghost use Rattle.std.specs.Prelude.{◌≡◌, ◌⊎◌, ℕ, List, [], ◌++◌, None, IsSome, IfOk};
 ghost use Rattle.lg_http.specs.declared.message.Next.TheVariants.{Failed};
 ghost use Rattle.lg_io.specs.Cause.{HasCause};
-ghost use Rattle.lg_http.specs.Answers.{Gave, Reads, ending_of};
+ghost use Rattle.lg_http.specs.Answers.{Hears, Reads, ending_of};
+ghost use Rattle.lg_http.specs.Messages.{IsUndecided};
 
 use crate::incoming::Incoming;
-use crate::{Ending, Next};
+use crate::{Next, ReaderEnd};
 use lg_base::NoMemory;
 use lg_io::Source;
 use std::alloc::Global;
@@ -14,14 +15,14 @@ use std::marker::Model;
 #[derive(Drop)]
 pub struct Reader {
     incoming: Incoming,
-    over: Option<Ending>,
+    over: Option<ReaderEnd>,
 }
 
 impl Model for Reader {
-    ghost use Rattle.lg_http.specs.Reading.{Reading};
+    ghost use Rattle.lg_http.specs.ReaderView.{ReaderView};
     ghost use Rattle.lg_http.specs.Incoming.{IsSound, bytes_of};
 
-    ghost Value = { Reading };
+    ghost Value = { ReaderView };
 
     ghost view = { λ r. record { left = bytes_of r.incoming; over = r.over } };
 
@@ -39,21 +40,23 @@ impl Reader {
         })
     }
 
-    /// The next message, once it is whole. After any answer but `Message` and `Quiet` the same answer comes again, and
-    /// nothing is read. At `NoMemory` no byte is lost, and nothing else is said.
+    /// The next message, once it is whole. Nothing is read where the bytes at hand decide. After any answer but `Message`
+    /// and `Quiet` the same answer comes again, and nothing is read. `NoMemory` is answered only where the front is a whole
+    /// head that is served, or has more than 64 fields; no byte is lost at it.
     pub fn next<R: Source>(&mut self, alloc: Global, source: &mut R) -> Next
-        ensures reads { self.old.over ≡ None → (got : List ℕ) × Gave (R.received source.old) (R.received source.new) got
-            × Reads (self.old.left ++ got) result self.new.left (R.received source.new) }
+        ensures reads { self.old.over ≡ None → (got : List ℕ) × Hears (R.received source.old) result got (R.received source.new)
+            × Reads (self.old.left ++ got) result self.new.left }
+        ensures asks { self.old.over ≡ None → IsUndecided self.old.left ⊎ (source.new ≡ source.old) }
         ensures over { self.new.over ≡ ending_of result }
         ensures again { IsSome self.old.over → (self.new ≡ self.old) × (source.new ≡ source.old) }
         ensures cause { self.old.over ≡ None → HasCause (R.faults source.old) (R.faults source.new) (result ≡ Failed) }
         ensures rest { R.rest source.new ≡ R.rest source.old }
     {
-        if let Some(ending) = self.over {
-            return ending.answer();
+        if let Some(end) = self.over {
+            return end.answer();
         }
         let answer = self.incoming.next(alloc, source);
-        self.over = answer.ending();
+        self.over = answer.end();
         answer
     }
 }

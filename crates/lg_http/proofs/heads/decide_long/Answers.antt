@@ -1,7 +1,12 @@
-use Rattle.std.proofs.Common.{◌≡◌, ℕ, length, Err, ap, subst, ◌∙◌}
+use Rattle.std.proofs.Common.{◌≡◌, inl, ℕ, length, Err, ap, subst, ◌∙◌}
 use Rattle.httparse.specs.Spans.{RequestExceeds}
-use Rattle.lg_http.proofs.HopeLemmas.{unfinished_hopeful, no_more_fields}
+use Rattle.lg_http.proofs.HopeLemmas.{unfinished_hopeful, no_more_fields, long_refused}
 use Rattle.lg_http.proofs.heads.decide_long.Goals as goal
+
+pub returns-in-Ok-Complete : goal.returns-in-Ok-Complete
+returns-in-Ok-Complete c =
+    let told = rw c.in-Ok-Complete.field-0-is at c.in-Ok-Complete.ensures in
+    inl (long_refused _ told.complete.0 _ c.requires.short c.requires.long told.complete.1.reads)
 
 pub cut_short-requires-clause-hopeful : goal.cut_short-requires-clause-hopeful
 cut_short-requires-clause-hopeful c =

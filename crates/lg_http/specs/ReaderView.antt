@@ -1,8 +1,8 @@
 -- What a reader of messages holds. This project's own.
 use Rattle.std.specs.Prelude.{ℕ, List, Option}
-use Rattle.lg_http.specs.declared.ending.Ending.{Ending}
+use Rattle.lg_http.specs.declared.reader_end.ReaderEnd.{ReaderEnd}
 
 -- the bytes that it received and didn't give out in a message, and why it gives no more, once it doesn't
-pub record Reading : Type 0 where
+pub record ReaderView : Type 0 where
   pub left : List ℕ
-  pub over : Option Ending
+  pub over : Option ReaderEnd

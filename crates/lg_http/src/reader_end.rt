@@ -5,7 +5,7 @@ use crate::Next;
 
 /// Why a reader gives no more messages.
 #[derive(Clone, Copy, Debug, PartialEq, Eq)]
-pub enum Ending {
+pub enum ReaderEnd {
     /// The input ended between two messages.
     Ended,
     /// What stands in a message's place is none. The number is the status to answer with.
@@ -17,17 +17,17 @@ pub enum Ending {
     NoMemory,
 }
 
-impl Ending {
+impl ReaderEnd {
     /// The answer of a reader that is over.
     pub(crate) fn answer(self) -> Next
         ensures { ending_of result ≡ Some self }
     {
         match self {
-            Ending::Ended => Next::End,
-            Ending::Bad(status) => Next::Bad(status),
-            Ending::Torn => Next::Torn,
-            Ending::Failed => Next::Failed,
-            Ending::NoMemory => Next::NoMemory,
+            ReaderEnd::Ended => Next::End,
+            ReaderEnd::Bad(status) => Next::Bad(status),
+            ReaderEnd::Torn => Next::Torn,
+            ReaderEnd::Failed => Next::Failed,
+            ReaderEnd::NoMemory => Next::NoMemory,
         }
     }
 }
