@@ -202,7 +202,7 @@ ends_last base lane connection old new count left before now answer result link 
     let handled = s.handled ++ s.last ∷ [] in
     let are : spoken s.handled ++ response_of answer ∷ [] ≡ spoken handled ++ [] = sym (with_last s.handled s.last answer s.answer_is) ∙ sym (append-nil (spoken handled)) in
     serves base lane connection old new handled left s.written before now s.received link closed s.heard s.told s.took s.not_ended
-    (record { front = s.handled; last = s.last; whole = refl; before = s.go_on; closes = rw s.answer_is last }, subst (λ rs. IsWhole rs _) are (whole_of result _ _ written s.outcome))
+    (record { front = s.handled; last = s.last; whole = refl; before = s.go_on; closes = rw s.answer_is last }, subst (λ rs. IsWhole rs (ended_with s.received s.written (link_faults link))) are (whole_of result _ _ written s.outcome))
 
 -- or its write failed
 pub ends_unwritten : {T E : Type 0} (base : State) (lane connection : ℕ) (old new : List Entry) (count : ℕ) (left : List ℕ) (before now : Option (List ClockCall)) (answer : Answer) (result : Result T E) (link : LinkTold)
@@ -212,7 +212,7 @@ ends_unwritten base lane connection old new count left before now answer result 
     let handled = s.handled ++ s.last ∷ [] in
     let are : spoken s.handled ++ response_of answer ∷ [] ≡ spoken handled ++ [] = sym (with_last s.handled s.last answer s.answer_is) ∙ sym (append-nil (spoken handled)) in
     serves base lane connection old new handled left s.written before now s.received link unwritten s.heard s.told s.took s.not_ended
-    (by_last (is_last answer) refl, subst (λ rs. IsCutShort rs _) are (cut_of result _ _ failed s.outcome)) where
+    (by_last (is_last answer) refl, subst (λ rs. IsCutShort rs (ended_with s.received s.written (link_faults link))) are (cut_of result _ _ failed s.outcome)) where
   by_last : (b : Bool) → is_last answer ≡ b → All GoesOn (s.handled ++ s.last ∷ []) ⊎ EndsLast (s.handled ++ s.last ∷ [])
   by_last true last = inr (record { front = s.handled; last = s.last; whole = refl; before = s.go_on; closes = rw s.answer_is last })
   by_last false stays = inl (All-push GoesOn s.handled s.last s.go_on (rw s.answer_is stays))

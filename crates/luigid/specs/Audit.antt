@@ -1,10 +1,9 @@
 -- The lives that an audit is told of. This project's own.
-use Rattle.std.specs.Prelude.{◌≡◌, ℕ, ◌^◌, ◌<◌, List, [], ◌∷◌, ◌++◌, Option, Some, None, codes, decimal}
+use Rattle.std.specs.Prelude.{◌≡◌, ℕ, List, [], ◌∷◌, ◌++◌, Option, Some, None, codes, decimal}
 use Rattle.luigid.specs.declared.audit.LifeEnd.{LifeEnd}
 use Rattle.luigid.specs.declared.audit.LifeEnd.TheVariants.{Stop, Full, Closed, Doors, Memory}
 use Rattle.luigid.specs.declared.journal.Entry.{Entry}
 use Rattle.luigid.specs.declared.state.State.{State}
-use Rattle.luigid.specs.Request.{IsInRange}
 
 -- a life: the state that it began with, and, once it has ended, its journal and how it ended
 pub record LifeTold : Type 0 where
@@ -26,11 +25,6 @@ abbrev pub EndsLife : List Entry → LifeEnd → Option (List LifeTold) → Opti
 EndsLife journal end old None = Unit {0}
 EndsLife journal end None (Some new) = ⊥
 EndsLife journal end (Some old) (Some new) = new ≡ ended_with journal end old
-
--- an entry's moment is below 2^62, and its request is in range
-pub record IsGoodEntry (e : Entry) : Type 0 where
-  pub moment : e.now.0 < 2 ^ 62
-  pub in_range : IsInRange e.request
 
 -- what stands behind the number in the line of a life
 abbrev pub end_of_line : LifeEnd → List ℕ

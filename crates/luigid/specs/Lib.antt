@@ -10,8 +10,8 @@ pub mod Call
 pub mod Transcript
 pub mod Session
 pub mod Lane
+pub mod GoodEntry
 pub mod Audit
-pub mod Life
 pub mod MemoryAudit
 pub mod Headline
 pub mod Said

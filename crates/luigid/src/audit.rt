@@ -2,7 +2,8 @@
 ghost use Rattle.std.specs.Prelude.{◌≡◌, List, [], ◌∷◌, Option, None, All, IfSome, OnOk, OnErr};
 ghost use Rattle.lg_io.specs.Rest.{Rest};
 ghost use Rattle.lg_io.specs.Tells.{TellsOn};
-ghost use Rattle.luigid.specs.Audit.{LifeTold, HasOpenLife, EndsLife, IsGoodEntry};
+ghost use Rattle.luigid.specs.Audit.{LifeTold, HasOpenLife, EndsLife};
+ghost use Rattle.luigid.specs.GoodEntry.{IsGoodEntry};
 ghost use Rattle.luigid.specs.State.{IsValidState};
 
 mod lines;

@@ -10,7 +10,7 @@ ghost use Rattle.luigid.specs.declared.refusal.Refusal.TheVariants.{BadVerb, Unk
 ghost use Rattle.luigid.specs.declared.request.Request.{Request};
 ghost use Rattle.luigid.specs.declared.request.Request.TheVariants.{Stop};
 ghost use Rattle.luigid.specs.declared.state.State.{State};
-ghost use Rattle.luigid.specs.Call.{◌>>=◌, amount_in, call_of, called, members_of, request_of, resource_in, update_of};
+ghost use Rattle.luigid.specs.Call.{◌>>=◌ as ◌and_then◌, amount_in, call_of, called, members_of, request_of, resource_in, update_of};
 ghost use Rattle.luigid.specs.Journal.{is_over};
 ghost use Rattle.luigid.specs.Methods.{is_method, method_of};
 ghost use Rattle.luigid.specs.Payload.{path_of, payload_of};
@@ -65,7 +65,7 @@ pub fn first_refusal()
         → call_of (codes "POST") target body ≡ Err refusal }
     ensures payload { (target body : List ℕ) (method : Method) → method_of (path_of target) ≡ Ok method
         → call_of (codes "POST") target body ≡ called method (payload_of target body) }
-    ensures arguments { (method : Method) (payload : List ℕ) → called method payload ≡ members_of payload >>= request_of method }
+    ensures arguments { (method : Method) (payload : List ℕ) → called method payload ≡ (members_of payload) and_then (request_of method) }
     ensures resource { (members : Members) (refusal : Refusal) → resource_in members ≡ Err refusal → update_of members ≡ Err refusal }
     ensures amount { (members : Members) (resource : List ℕ) (refusal : Refusal) → resource_in members ≡ Ok resource → amount_in members ≡ Err refusal
         → update_of members ≡ Err refusal }

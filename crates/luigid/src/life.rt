@@ -1,9 +1,10 @@
 //! A life: a state, and the journal of the calls that moved it on.
-ghost use Rattle.std.specs.Prelude.{◌≡◌, ◌^◌, ◌<◌, false, [], ◌∷◌, ◌++◌, All, IfOk, OnOk, OnErr};
+ghost use Rattle.std.specs.Prelude.{◌≡◌, ◌^◌, ◌-◌, ◌<◌, min, false, [], ◌∷◌, ◌++◌, All, IfOk, OnOk, OnErr};
+ghost use Rattle.std.proofs.Props.{props};
 ghost use Rattle.lg_json.specs.Tree.{tree_of};
-ghost use Rattle.luigid.specs.Audit.{IsGoodEntry};
+ghost use Rattle.luigid.specs.GoodEntry.{IsGoodEntry, good_entries-prop};
 ghost use Rattle.luigid.specs.Request.{IsInRange};
-ghost use Rattle.luigid.specs.Journal.{has_stop, is_over, NoneBehindEnd};
+ghost use Rattle.luigid.specs.Journal.{has_stop, is_over, payload_bytes, NoneBehindEnd};
 ghost use Rattle.luigid.specs.State.{IsValidState};
 ghost use Rattle.luigid.specs.Step.{step};
 
@@ -12,7 +13,6 @@ use crate::state::State;
 use crate::step::{Reply, make_step};
 use lg_base::NoMemory;
 use std::alloc::Global;
-use std::marker::Model;
 
 /// The most entries of a journal.
 const MAX_ENTRIES: usize = 200_000;
@@ -20,8 +20,7 @@ const MAX_ENTRIES: usize = 200_000;
 /// The most bytes of payload of a journal, in sum.
 const MAX_BYTES: u64 = 268_435_456;
 
-/// The scheduler of one thread, with its journal. Contracts see its state and its journal. The state is valid, each entry
-/// is in range, and none stands behind a place at which the journal is over.
+/// The scheduler of one thread, with its journal.
 #[derive(Drop)]
 pub struct Life {
     /// The state behind the last entry.
@@ -32,16 +31,11 @@ pub struct Life {
     stopped: bool,
     /// The bytes of the payloads in sum; 2^64 - 1 where there are more.
     bytes: u64,
-}
-
-impl Model for Life {
-    ghost use Rattle.luigid.specs.Life.{Lived, IsKept};
-
-    ghost Value = { Lived };
-
-    ghost view = { λ life. record { state = life.state; journal = life.journal } };
-
-    ghost invariant = { λ life. IsKept life.state life.journal life.stopped life.bytes };
+    pub ghost is_valid: { IsValidState state } by { Prim.hlevel props },
+    pub ghost is_good: { All IsGoodEntry journal } by { good_entries-prop journal },
+    pub ghost is_open: { NoneBehindEnd journal } by { Prim.hlevel props },
+    pub ghost is_marked: { stopped ≡ has_stop journal },
+    pub ghost is_counted: { bytes ≡ min (payload_bytes journal) (2 ^ 64 - 1) },
 }
 
 impl Life {
@@ -96,7 +90,7 @@ impl Life {
         ensures entered { OnOk result (self.new.journal ≡ self.old.journal ++ entry ∷ []) }
         ensures state { OnOk result (self.new.state ≡ (step self.old.state entry.now.0 entry.request).0) }
         ensures reply { IfOk result (λ reply. tree_of reply.0 ≡ (step self.old.state entry.now.0 entry.request).1) }
-        ensures err { OnErr result (self.new ≡ self.old) }
+        ensures err { OnErr result ((self.new.journal ≡ self.old.journal) × (self.new.state ≡ self.old.state)) }
     {
         let now = entry.now;
         let stops = entry.request.is_stop();

@@ -56,8 +56,8 @@ returns-in-Err-call-clause-handles g c base arrived replayed shows =
     let is_call = sym asked.0 ∙ shown_call _ arrived shows in
     let may : MayWantMemory (Ok c.in-Ok-Call.request) = tt in
     let once : ReadsFor (Ok c.in-Ok-Call.request) (c.now-now.result.0 ∷ []) = omega arith in
-    rw c.in-Err-call.ensures.err
+    rw c.in-Err-call.ensures.err.0
     (handles_without base _ _ _ arrived _ _ _ (c.now-now.result.0 ∷ []) (subst MayWantMemory is_call may) (subst (λ call. ReadsFor call (c.now-now.result.0 ∷ [])) is_call once) c.now-now.ensures.told)
 
 pub returns-in-Err-call-clause-goes_on : goal.returns-in-Err-call-clause-goes_on
-returns-in-Err-call-clause-goes_on g c = rw c.in-Err-call.ensures.err (goes_on_nothing _ _)
+returns-in-Err-call-clause-goes_on g c = rw c.in-Err-call.ensures.err.0 (goes_on_nothing _ _)

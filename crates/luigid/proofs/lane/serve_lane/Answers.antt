@@ -37,7 +37,7 @@ loop-connection-preserved g c =
 pub returns-then-is_stopped-clause-served : goal.returns-then-is_stopped-clause-served
 returns-then-is_stopped-clause-served g c =
     let before = c.loop-connection.invariant in
-    ends_over _ _ _ _ _ _ _ _ Stop before.so_far before.begun (stop_is_over _ (sym c.is_stopped.ensures ∙ c.if-is_stopped.true)) (λ told last. last)
+    ends_over _ _ _ _ _ _ _ _ Stop before.so_far before.begun (stop_is_over c.loop-connection.life.journal (sym c.is_stopped.ensures ∙ c.if-is_stopped.true)) (λ told last. last)
 
 pub returns-then-is_over-clause-served : goal.returns-then-is_over-clause-served
 returns-then-is_over-clause-served g c =
