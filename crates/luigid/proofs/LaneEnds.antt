@@ -1,14 +1,13 @@
 -- How a lane ends, from what it served so far.
-use Rattle.std.proofs.Common.{◌≡◌, ◌≢◌, ℕ, zero, suc, ◌+◌, ◌<◌, true, false, List, [], refl, sym, ◌∙◌, ap, arith, Option, Some, None, option_map}
+use Rattle.std.proofs.Common.{◌≡◌, ℕ, zero, suc, ◌<◌, true, false, List, [], refl, ap, arith, Option, Some, None, option_map}
 use Rattle.lg_io.specs.Clock.{ClockCall}
 use Rattle.lg_io.specs.Door.{AcceptKind, DoorTold, conn, accepted, handed_by}
-use Rattle.lg_io.specs.DoorSeen.{DoorSeen}
 use Rattle.luigid.specs.declared.audit.LifeEnd.{LifeEnd}
 use Rattle.luigid.specs.declared.journal.Entry.{Entry}
 use Rattle.luigid.specs.declared.state.State.{State}
-use Rattle.luigid.specs.Headline.{HasConnections, HasLane, HasLast}
+use Rattle.luigid.specs.Headline.{HasLane, HasLast}
 use Rattle.luigid.specs.Journal.{is_over}
-use Rattle.luigid.proofs.Lanes.{SoFar, ServedSoFar}
+use Rattle.luigid.proofs.Lanes.{SoFar}
 
 -- a lane whose journal is over served a link
 some_link : (connections : ℕ) (journal : List Entry) → (connections ≡ 0 → journal ≡ []) → is_over journal ≡ true → 0 < connections

@@ -1,5 +1,5 @@
 -- The connections of a lane so far, and one more.
-use Rattle.std.proofs.Common.{◌≡◌, ℕ, ◌+◌, ◌<◌, Bool, true, false, List, [], ◌∷◌, ◌++◌, map, filter, length, refl, sym, ◌∙◌, ap, subst, arith, eq-eqb, All, Option, Some, None, option_map, IfSome, length-append, append_assoc}
+use Rattle.std.proofs.Common.{◌≡◌, ℕ, ◌+◌, ◌<◌, true, false, List, [], ◌∷◌, ◌++◌, map, length, refl, sym, ◌∙◌, ap, subst, arith, eq-eqb, All, Option, Some, None, option_map, length-append, append_assoc}
 use Rattle.std.proofs.lemmas.Grind.{flat_map-append}
 use Rattle.std.proofs.lemmas.List.{append-nil, map-append}
 use Rattle.std.proofs.lemmas.List.Elements.{All-head, All-tail}
@@ -16,7 +16,7 @@ use Rattle.luigid.specs.Journal.{is_over, GoesOnBy}
 use Rattle.luigid.specs.Lane.{IsLane, NoLinkBehindEnd, entries_of}
 use Rattle.luigid.specs.Replay.{Answered, answered, made_by}
 use Rattle.luigid.specs.Serving.{Serves}
-use Rattle.luigid.specs.Session.{Session, Each, IsServed, calls_of, moments_of}
+use Rattle.luigid.specs.Session.{Session, IsServed, calls_of, moments_of}
 use Rattle.luigid.proofs.Journals.{front_of_front, open_front}
 use Rattle.luigid.proofs.Places.{Each-push, Each-map}
 use Rattle.luigid.proofs.Replays.{entries_answered}
@@ -73,7 +73,7 @@ no_link-push : (sessions : List Session) (session : Session) → is_over (entrie
 no_link-push sessions session still front s back is =
     let more = front_of_front sessions front back session s is in
     let parts : entries_of sessions ≡ entries_of front ++ entries_of more.0 =
-        ap entries_of more.1 ∙ ap (map (λ (a : Answered). a.entry)) (flat_map-append calls_of front more.0) ∙ map-append (λ (a : Answered). a.entry) (flat_map calls_of front) (flat_map calls_of more.0) in
+    ap entries_of more.1 ∙ ap (map (λ (a : Answered). a.entry)) (flat_map-append calls_of front more.0) ∙ map-append (λ (a : Answered). a.entry) (flat_map calls_of front) (flat_map calls_of more.0) in
     open_front (entries_of front) (entries_of more.0) (rw (← parts) still)
 
 -- nothing was served yet
@@ -133,8 +133,7 @@ so_far_more base journal new lane connections None door between behind before ca
 so_far_more base journal new lane connections (Some old) door between behind before calls started ended after fresh link so_far still alone is_fresh goes started_is serves between_is behind_is ended_is =
     let told = so_far.0 in
     let is_fresh' : IsFresh (Some told) fresh = subst (λ d. IsFresh d fresh) so_far.1 is_fresh in
-    let s : Serves base lane connections journal new calls after link = subst (λ c. Serves base lane connections journal new c after link) started_is (serves is_fresh'.told) in
-    (
+    let s : Serves base lane connections journal new calls after link = subst (λ c. Serves base lane connections journal new c after link) started_is (serves is_fresh'.told) in (
       done_with s.session.link (accepted conn told),
       rw (behind_is, between_is, so_far.1, s.link_is) refl,
       rw ended_is (one_more base journal new lane connections old told before calls after link so_far.2 still alone goes s),

@@ -1,5 +1,5 @@
 -- What holds of each item of a list at its place.
-use Rattle.std.proofs.Common.{◌≡◌, ℕ, ◌+◌, zero, suc, List, [], ◌∷◌, ◌++◌, length, subst, Some}
+use Rattle.std.proofs.Common.{ℕ, zero, suc, List, [], ◌∷◌, ◌++◌, length, subst}
 use Rattle.luigid.specs.Session.{Each}
 
 -- one more item, at the end

@@ -1,12 +1,12 @@
 -- The responses of a connection, and a last one that was written whole or cut short.
-use Rattle.std.proofs.Common.{◌≡◌, ℕ, zero, suc, ◌+◌, ◌<◌, Bool, true, false, List, [], ◌∷◌, ◌++◌, map, All, refl, sym, ◌∙◌, ap, subst, arith, Option, Some, None}
+use Rattle.std.proofs.Common.{◌≡◌, ℕ, zero, suc, ◌+◌, ◌<◌, Bool, true, false, List, [], ◌∷◌, ◌++◌, map, refl, sym, ◌∙◌, ap, arith, Option, Some, None}
 use Rattle.std.proofs.lemmas.List.{append-nil, map-append}
 use Rattle.std.proofs.lemmas.List.Folds.{concat-append}
 use Rattle.std.specs.Prelude.{Result, Ok, Err, IsErr, is_err}
 use Rattle.std.specs.List.{concat}
 use Rattle.lg_io.specs.Link.{EndedLink}
 use Rattle.lg_io.specs.Cause.{HasCause}
-use Rattle.lg_io.specs.Sink.{IsPrefix, WritesAll}
+use Rattle.lg_io.specs.Sink.{WritesAll}
 use Rattle.luigid.specs.Session.{Handled, IsWhole, IsCutShort}
 use Rattle.luigid.specs.Transcript.{response_of}
 

@@ -69,7 +69,7 @@ lane_of_unused base journal end None now before calls was none lane = rw lane re
 lane_of_unused base journal end (Some old) now before calls was none lane =
     let told : now ≡ Some lane.new = lane.tells in
     let since : IsLane base journal 0 unused_door lane.new before calls lane.sessions =
-        subst (λ d. IsLane base journal 0 d lane.new before calls lane.sessions) was lane.is_lane in
+    subst (λ d. IsLane base journal 0 d lane.new before calls lane.sessions) was lane.is_lane in
     rw told (record {
       new = lane.new;
       tells = refl;
@@ -84,10 +84,10 @@ lane_of_unused base journal end (Some old) now before calls was none lane =
       };
       last = lane.last;
     }) where
-  read_since : (before calls : Option (List ClockCall)) (items : List ClockCall) → IfSome before (λ c. c ≡ []) → TellsOn before calls items → TellsOn (option_map (λ _. []) calls) calls items
-  read_since before None items none read = tt
-  read_since None (Some new) items none read = absurd read
-  read_since (Some c) (Some new) items none read = rw none at read
+      read_since : (before calls : Option (List ClockCall)) (items : List ClockCall) → IfSome before (λ c. c ≡ []) → TellsOn before calls items → TellsOn (option_map (λ _. []) calls) calls items
+      read_since before None items none read = tt
+      read_since None (Some new) items none read = absurd read
+      read_since (Some c) (Some new) items none read = rw none at read
 
 -- a life that was told from its beginning to its end was served
 pub served_life : (base : State) (journal handed : List Entry) (end : LifeEnd) (began door : DoorSeen) (before during after : Option (List LifeTold))

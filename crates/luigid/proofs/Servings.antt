@@ -12,7 +12,7 @@ use Rattle.lg_io.proofs.CallerLemmas.{TellsOn-nothing, TellsOn-append}
 use Rattle.luigid.specs.declared.journal.Entry.{Entry}
 use Rattle.luigid.specs.declared.state.State.{State}
 use Rattle.luigid.specs.Handling.{Handles}
-use Rattle.luigid.specs.Journal.{is_over, GoesOnBy}
+use Rattle.luigid.specs.Journal.{GoesOnBy}
 use Rattle.luigid.specs.Replay.{Answered, answered, made_by}
 use Rattle.luigid.specs.Session.{Handled, Each, IsAnswered, IsHandled}
 use Rattle.luigid.specs.Transcript.{Answer, replied, refused, no_memory}

@@ -1,5 +1,5 @@
 -- A connection that is being served, and how it ends.
-use Rattle.std.proofs.Common.{◌≡◌, ℕ, ◌+◌, Bool, true, false, ◌||◌, List, [], ◌∷◌, ◌++◌, length, map, All, refl, sym, ◌∙◌, ap, subst, arith, Option, Some, inl, inr}
+use Rattle.std.proofs.Common.{◌≡◌, ℕ, ◌+◌, Bool, true, false, ◌||◌, List, [], ◌∷◌, ◌++◌, length, All, refl, sym, ◌∙◌, ap, subst, arith, Option, Some, inl, inr}
 use Rattle.std.proofs.lemmas.Grind.{common_steps}
 use Rattle.std.proofs.lemmas.List.{append-nil}
 use Rattle.std.proofs.lemmas.List.Elements.{All-nil, All-push}
@@ -122,9 +122,9 @@ ends_bad base lane connection old new count left got before now link heard link'
     (heard_rest base lane connection old new s.handled left got s.received.bytes before now s.heard))
     (received ∙ more.1) w.took (more.2.ended ∙ ap (λ was. was || ends_input answer) s.not_ended ∙ ended)
     (s.go_on, is_bad, status_is, either result _ _ w.outcome) where
-  either : {T E : Type 0} (result : Result T E) (responses : List (List ℕ)) (link : EndedLink) → Written result responses link → IsWhole responses link ⊎ IsCutShort responses link
-  either (Ok x) responses link written = inl written
-  either (Err e) responses link written = inr written
+      either : {T E : Type 0} (result : Result T E) (responses : List (List ℕ)) (link : EndedLink) → Written result responses link → IsWhole responses link ⊎ IsCutShort responses link
+      either (Ok x) responses link written = inl written
+      either (Err e) responses link written = inr written
 
 -- A message was handled and its response was written, or a front of it: what the connection did, and what its link tells.
 pub record IsSpoken {T E : Type 0} (base : State) (lane connection : ℕ) (old new : List Entry) (count : ℕ) (left : List ℕ) (before now : Option (List ClockCall)) (answer : Answer) (result : Result T E) (link : LinkTold) : Type 0 where
@@ -213,6 +213,6 @@ ends_unwritten base lane connection old new count left before now answer result 
     let are : spoken s.handled ++ response_of answer ∷ [] ≡ spoken handled ++ [] = sym (with_last s.handled s.last answer s.answer_is) ∙ sym (append-nil (spoken handled)) in
     serves base lane connection old new handled left s.written before now s.received link unwritten s.heard s.told s.took s.not_ended
     (by_last (is_last answer) refl, subst (λ rs. IsCutShort rs (ended_with s.received s.written (link_faults link))) are (cut_of result _ _ failed s.outcome)) where
-  by_last : (b : Bool) → is_last answer ≡ b → All GoesOn (s.handled ++ s.last ∷ []) ⊎ EndsLast (s.handled ++ s.last ∷ [])
-  by_last true last = inr (record { front = s.handled; last = s.last; whole = refl; before = s.go_on; closes = rw s.answer_is last })
-  by_last false stays = inl (All-push GoesOn s.handled s.last s.go_on (rw s.answer_is stays))
+      by_last : (b : Bool) → is_last answer ≡ b → All GoesOn (s.handled ++ s.last ∷ []) ⊎ EndsLast (s.handled ++ s.last ∷ [])
+      by_last true last = inr (record { front = s.handled; last = s.last; whole = refl; before = s.go_on; closes = rw s.answer_is last })
+      by_last false stays = inl (All-push GoesOn s.handled s.last s.go_on (rw s.answer_is stays))

@@ -1,11 +1,11 @@
 -- What a connection's end says of the transcript.
-use Rattle.std.proofs.Common.{◌≡◌, ℕ, ◌<◌, List, [], ◌∷◌, ◌++◌, refl, sym, ◌∙◌, ap, append_assoc, arith, inl, inr}
+use Rattle.std.proofs.Common.{◌≡◌, ℕ, List, [], ◌++◌, sym, ◌∙◌, ap, append_assoc, arith, inl, inr}
 use Rattle.std.proofs.lemmas.List.{append-nil}
 use Rattle.std.specs.Prelude.{◌⊎◌}
 use Rattle.std.specs.List.{concat}
 use Rattle.lg_io.specs.Link.{EndedLink}
 use Rattle.lg_io.specs.Sink.{IsPrefix}
-use Rattle.luigid.specs.Session.{Session, LinkEnd, closed, at_end, unread, unwritten, without_memory, bad, HasEnd, IsWhole, IsUnread, IsCutShort, responses, transcript}
+use Rattle.luigid.specs.Session.{Session, LinkEnd, closed, at_end, unread, unwritten, without_memory, bad, HasEnd, IsWhole, IsCutShort, responses, transcript}
 use Rattle.luigid.proofs.Responses.{concat-push}
 
 -- all of a text is a front of it
@@ -14,9 +14,11 @@ all_of written text is = ([], sym is ∙ sym (append-nil written))
 
 -- the front of a text that was cut short
 cut_front : (rs : List (List ℕ)) (link : EndedLink) → IsCutShort rs link → IsPrefix link.written (concat rs)
-cut_front rs link cut =
-    (cut.is_part.0, ap concat cut.are ∙ concat-push cut.front cut.last ∙ ap (λ last. concat cut.front ++ last) cut.is_part.1
-    ∙ sym (append_assoc (concat cut.front) cut.part cut.is_part.0) ∙ ap (λ front. front ++ cut.is_part.0) (sym cut.written))
+cut_front rs link cut = (
+  cut.is_part.0,
+  ap concat cut.are ∙ concat-push cut.front cut.last ∙ ap (λ last. concat cut.front ++ last) cut.is_part.1
+      ∙ sym (append_assoc (concat cut.front) cut.part cut.is_part.0) ∙ ap (λ front. front ++ cut.is_part.0) (sym cut.written),
+)
 
 either_front : (rs : List (List ℕ)) (link : EndedLink) → IsWhole rs link ⊎ IsCutShort rs link → IsPrefix link.written (concat rs)
 either_front rs link (inl whole) = all_of _ _ whole.written

@@ -1,5 +1,5 @@
 -- What each entry of a journal meets. This project's own.
-use Rattle.std.specs.Prelude.{ℕ, ℤ, pos, ◌≤ℤ◌, ◌^◌, ◌<◌, List, All}
+use Rattle.std.specs.Prelude.{ℤ, pos, ◌≤ℤ◌, ◌^◌, ◌<◌, List, All}
 use Rattle.std.specs.Coded.{Π_prop, →_prop, Unit-prop, le_prop}
 use lib.Dec.{T_prop}
 use Rattle.luigid.specs.declared.journal.Entry.{Entry}

@@ -49,7 +49,11 @@ pub fn speak<L: Link>(said: &Said, texts: &Texts, link: &mut L) -> Result<(), Wr
 }
 
 /// Writes to a link, with this status, that what stands in a message's place is none.
-pub fn speak_bad_message<L: Link>(status: u16, texts: &Texts, link: &mut L) -> Result<(), WriteFailed>
+pub fn speak_bad_message<L: Link>(
+    status: u16,
+    texts: &Texts,
+    link: &mut L,
+) -> Result<(), WriteFailed>
     requires status { IsStatus status }
     requires texts { AreTexts texts.now }
     ensures told { WritesAll (L.taken link.old) (L.taken link.new) (error_response status) result }

@@ -46,7 +46,6 @@ impl MemoryAudit {
 impl Audit for MemoryAudit {
     ghost use Rattle.luigid.specs.MemoryAudit.{life_told};
     ghost use Rattle.std.specs.Prelude.{map, Some};
-
     ghost use Rattle.lg_io.specs.Rest.{nothing};
 
     ghost lives = { λ audit. Some (map life_told audit.lives.items) };

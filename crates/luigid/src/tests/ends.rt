@@ -16,7 +16,6 @@ struct FullAudit;
 
 impl Audit for FullAudit {
     ghost use Rattle.std.specs.Prelude.{None};
-
     ghost use Rattle.lg_io.specs.Rest.{nothing};
 
     ghost lives = { λ _. None };

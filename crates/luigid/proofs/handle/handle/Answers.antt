@@ -1,4 +1,4 @@
-use Rattle.std.proofs.Common.{◌≡◌, ℕ, [], ◌∷◌, refl, sym, ◌∙◌, subst, arith, Result, Ok, Err}
+use Rattle.std.proofs.Common.{◌≡◌, ℕ, [], ◌∷◌, sym, ◌∙◌, subst, arith, Result, Ok, Err}
 use Rattle.lg_io.proofs.CallerLemmas.{TellsOn-nothing}
 use Rattle.luigid.specs.declared.call.Asked.{Asked}
 use Rattle.luigid.specs.declared.call.Asked.TheVariants.{Call, Refused}

@@ -1,4 +1,4 @@
-use Rattle.std.proofs.Common.{◌≡◌, List, ◌++◌, ◌∙◌, ap, subst, append_assoc}
+use Rattle.std.proofs.Common.{◌++◌, ◌∙◌, ap, subst, append_assoc}
 use Rattle.lg_http.specs.Answers.{Reads}
 use Rattle.luigid.proofs.Hearings.{hears_more}
 use Rattle.luigid.proofs.hearing.hear.Goals as goal

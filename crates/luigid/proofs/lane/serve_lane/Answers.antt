@@ -1,5 +1,5 @@
-use Rattle.std.proofs.Common.{◌≡◌, ◌∷◌, Bool, ◌||◌, List, refl, sym, ◌∙◌, ap, arith, Option, ℕ, true, false}
-use Rattle.std.proofs.lemmas.List.Elements.{All-nil, All-append}
+use Rattle.std.proofs.Common.{◌≡◌, Bool, refl, sym, ◌∙◌, arith, Option, ℕ}
+use Rattle.std.proofs.lemmas.List.Elements.{All-nil}
 use Rattle.lg_io.specs.Door.{DoorTold, closed, failed, no_memory}
 use Rattle.lg_io.specs.Rest.{of_door}
 use Rattle.luigid.specs.declared.audit.LifeEnd.TheVariants.{Stop, Full, Closed, Doors, Memory}

@@ -40,7 +40,7 @@ pub invariant_of-self-in-Ok-clause-is_marked : goal.invariant_of-self-in-Ok-clau
 invariant_of-self-in-Ok-clause-is_marked c =
     let marked = marked-push c.args.self.now.journal _ c.args.entry c.args.self.now.stopped c.args.self.now.is_marked c.in_ok-enter.ensures.ok in
     elim c.if-self.branch [
-      then-self w ↦ w.self-is ∙ w.if-self.true ∙ ap (λ b. b || is_stop c.args.entry.request) (sym w.if-self.true) ∙ marked
+      | then-self w ↦ w.self-is ∙ w.if-self.true ∙ ap (λ b. b || is_stop c.args.entry.request) (sym w.if-self.true) ∙ marked
       | else-self w ↦ w.self-is ∙ c.is_stop-stops.ensures ∙ ap (λ b. b || is_stop c.args.entry.request) (sym w.if-self.false) ∙ marked
     ]
 
