@@ -1,6 +1,6 @@
 use crate::{Next, Reader, respond};
 use lg_base::Text;
-use lg_io::{FaultList, MemorySink, MemorySource, NoFaults, Source, Turn};
+use lg_io::{FaultList, MemorySink, MemorySource, NoFaults, ReadStep, Source, Turn};
 use lg_json::Out;
 use std::alloc::Global;
 use std::process::Abort;
@@ -28,14 +28,77 @@ fn is_post(answer: &Next, target: &[u8], body: &[u8]) -> bool {
     }
 }
 
-/// The two calls of `TWO_CALLS`, and then the end, again and again.
-fn assert_two_calls<S: Source>(rt: &impl Abort, alloc: Global, source: &mut S) -> Result<(), Fail> {
+/// What a reader is to answer.
+#[derive(Clone, Copy)]
+enum Expected {
+    /// A call with this target and this body.
+    Call(&'static [u8], &'static [u8]),
+    End,
+    Bad,
+    Torn,
+}
+
+fn is_expected(answer: &Next, expected: Expected) -> bool {
+    match expected {
+        Expected::Call(target, body) => is_post(answer, target, body),
+        Expected::End => matches!(answer, Next::End),
+        Expected::Bad => matches!(answer, Next::Bad(400)),
+        Expected::Torn => matches!(answer, Next::Torn),
+    }
+}
+
+/// The calls of `TWO_CALLS`.
+const UPDATE: Expected = Expected::Call(b"/api/update_resource", FORM);
+
+const STOP: Expected = Expected::Call(b"/api/stop", b"");
+
+/// The answers to an input that comes in two pieces with two quiet turns between. Beside each answer stands the number
+/// of bytes that decide it, for one that only the end decides one more than there are: where fewer came, the quiet turns
+/// are told first.
+fn assert_answers(
+    rt: &impl Abort,
+    alloc: Global,
+    input: &[u8],
+    cut: usize,
+    answers: &[(Expected, usize)],
+) -> Result<(), Fail> {
+    let mut source = source_of(alloc, input, &[Turn::Piece(cut), Turn::Quiet, Turn::Quiet])?;
     let mut reader = Reader::make(alloc)?;
-    assert!(rt; is_post(&reader.next(alloc, source), b"/api/update_resource", FORM));
-    assert!(rt; is_post(&reader.next(alloc, source), b"/api/stop", b""));
-    assert!(rt; matches!(&reader.next(alloc, source), Next::End));
-    assert!(rt; matches!(&reader.next(alloc, source), Next::End));
+    let mut was_quiet = false;
+    for (expected, decided) in answers {
+        if cut < *decided && !was_quiet {
+            was_quiet = true;
+            for quiets in 1..=2 {
+                assert!(rt; matches!(&reader.next(alloc, &mut source), Next::Quiet));
+                assert_eq!(rt; source.quiets(), quiets);
+            }
+        }
+        assert!(rt;
+            is_expected(&reader.next(alloc, &mut source), *expected),
+            "cut at {cut}"
+        );
+    }
     Ok(())
+}
+
+/// A source that counts its reads.
+#[derive(Drop)]
+struct Counted<S> {
+    source: S,
+    reads: usize,
+}
+
+impl<S: Source> Source for Counted<S> {
+    ghost received = { λ c. S.received c.source };
+
+    ghost faults = { λ c. S.faults c.source };
+
+    ghost rest = { λ c. S.rest c.source };
+
+    fn read(&mut self, buf: &mut [u8]) -> ReadStep {
+        self.reads = self.reads.saturating_add(1);
+        self.source.read(buf)
+    }
 }
 
 /// What comes first of an input in one piece.
@@ -66,14 +129,77 @@ fn head_with_target(alloc: Global, letters: usize) -> Result<Vec<u8>, Fail> {
 }
 
 #[test]
-fn messages_come_however_the_input_is_cut(rt: HostRuntime) -> Result<(), Fail> {
-    for cut in 1..=TWO_CALLS.len() {
-        let mut source = source_of(rt.alloc(), TWO_CALLS, &[Turn::Piece(cut)])?;
-        assert_two_calls(&rt, rt.alloc(), &mut source)?;
+fn answers_are_the_same_at_each_cut(rt: HostRuntime) -> Result<(), Fail> {
+    let table: [(&[u8], [(Expected, usize); 3]); 5] = [
+        (
+            TWO_CALLS,
+            [(UPDATE, 123), (STOP, 178), (Expected::End, 179)],
+        ),
+        (
+            b"POST /a HTTP/1.1\r\nContent-Length: 3\r\n\r\nxyzPOST /b HTTP/1.0\r\nContent-Length: 0\r\n\r\n",
+            [
+                (Expected::Call(b"/a", b"xyz"), 42),
+                (Expected::Bad, 81),
+                (Expected::Bad, 81),
+            ],
+        ),
+        (
+            b"POST \x01 HTTP/1.1\r\n\r\n",
+            [(Expected::Bad, 7), (Expected::Bad, 7), (Expected::Bad, 7)],
+        ),
+        (
+            b"POST /a HTTP/1.1\r\nContent-Length: 3\r\n\r\nxy",
+            [
+                (Expected::Torn, 42),
+                (Expected::Torn, 42),
+                (Expected::Torn, 42),
+            ],
+        ),
+        (
+            b"\r\n\nPOST /a?b HTTP/1.1\ncontent-length: 1\n\nz",
+            [
+                (Expected::Call(b"/a?b", b"z"), 42),
+                (Expected::End, 43),
+                (Expected::End, 43),
+            ],
+        ),
+    ];
+    for (input, answers) in table {
+        for cut in 1..=input.len() {
+            assert_answers(&rt, rt.alloc(), input, cut, &answers)?;
+        }
     }
+    Ok(())
+}
+
+#[test]
+fn messages_come_byte_by_byte(rt: HostRuntime) -> Result<(), Fail> {
     let single = vec![in rt.alloc(); Turn::Piece(1); TWO_CALLS.len()]?;
     let mut source = source_of(rt.alloc(), TWO_CALLS, &single)?;
-    assert_two_calls(&rt, rt.alloc(), &mut source)
+    let mut reader = Reader::make(rt.alloc())?;
+    for expected in [UPDATE, STOP, Expected::End, Expected::End] {
+        assert!(&rt; is_expected(&reader.next(rt.alloc(), &mut source), expected));
+    }
+    Ok(())
+}
+
+#[test]
+fn nothing_is_read_where_the_bytes_at_hand_decide(rt: HostRuntime) -> Result<(), Fail> {
+    let mut source = Counted {
+        source: source_of(rt.alloc(), TWO_CALLS, &[])?,
+        reads: 0,
+    };
+    let mut reader = Reader::make(rt.alloc())?;
+    for (expected, reads) in [
+        (UPDATE, 1),
+        (STOP, 1),
+        (Expected::End, 2),
+        (Expected::End, 2),
+    ] {
+        assert!(&rt; is_expected(&reader.next(rt.alloc(), &mut source), expected));
+        assert_eq!(&rt; source.reads, reads);
+    }
+    Ok(())
 }
 
 #[test]
@@ -150,19 +276,6 @@ fn input_that_ends_inside_a_message_is_torn(rt: HostRuntime) -> Result<(), Fail>
         assert!(&rt; matches!(&first(rt.alloc(), input)?, Next::Torn));
     }
     assert!(&rt; matches!(&first(rt.alloc(), b"")?, Next::End));
-    Ok(())
-}
-
-#[test]
-fn quiet_keeps_what_came(rt: HostRuntime) -> Result<(), Fail> {
-    let input = b"POST /a HTTP/1.1\r\nContent-Length: 3\r\n\r\nxyz";
-    for cut in 1..input.len() {
-        let turns = [Turn::Piece(cut), Turn::Quiet];
-        let mut source = source_of(rt.alloc(), input, &turns)?;
-        let mut reader = Reader::make(rt.alloc())?;
-        assert!(&rt; matches!(&reader.next(rt.alloc(), &mut source), Next::Quiet));
-        assert!(&rt; is_post(&reader.next(rt.alloc(), &mut source), b"/a", b"xyz"));
-    }
     Ok(())
 }
 
