@@ -31,9 +31,18 @@ pub fn serve_connection<R: Wait, L: Link, K: Clock>(
     requires not_over { is_over life.old.journal ≡ false }
     requires texts { AreTexts texts.now }
     ensures serves { (base : State) → life.old.state ≡ replay base life.old.journal
-        → record { received = L.received link.old; taken = L.taken link.old; read_faults = L.Source.faults link.old; write_faults = L.Sink.faults link.old } ≡ fresh_link
-        → Serves base lane connection life.old.journal life.new.journal (K.calls clock.old) (K.calls clock.new)
-        record { received = L.received link.new; taken = L.taken link.new; read_faults = L.Source.faults link.new; write_faults = L.Sink.faults link.new } }
+        → record {
+          received = L.received link.old;
+          taken = L.taken link.old;
+          read_faults = L.Source.faults link.old;
+          write_faults = L.Sink.faults link.old;
+        } ≡ fresh_link
+        → Serves base lane connection life.old.journal life.new.journal (K.calls clock.old) (K.calls clock.new) record {
+          received = L.received link.new;
+          taken = L.taken link.new;
+          read_faults = L.Source.faults link.new;
+          write_faults = L.Sink.faults link.new;
+        } }
     ensures goes_on { GoesOnBy lane life.old.journal life.new.journal }
     ensures replayed { (base : State) → life.old.state ≡ replay base life.old.journal → life.new.state ≡ replay base life.new.journal }
     ensures rest { K.rest clock.new ≡ K.rest clock.old }

@@ -47,8 +47,18 @@ pub fn luigid<R: Wait, N: Net, F: Files, G: Numbers, U: Audit, O: Sink, S: Sink>
     requires { doors.old.items ≡ [] }
     ensures run { (exit : Exit) × (result ≡ status_of exit) × Says (S.taken err.old) (S.taken err.new) (S.faults err.old) (S.faults err.new) (line_of exit)
         × IsRun words.now
-        record { binds = N.binds net.old; bind_faults = N.faults net.old; doors = []; lives = U.lives audit.old }
-        record { binds = N.binds net.new; bind_faults = N.faults net.new; doors = map (λ d. record { door = N.Door.door d; calls = N.Door.calls d }) doors.new.items; lives = U.lives audit.new }
+        record {
+          binds = N.binds net.old;
+          bind_faults = N.faults net.old;
+          doors = [];
+          lives = U.lives audit.old;
+        }
+        record {
+          binds = N.binds net.new;
+          bind_faults = N.faults net.new;
+          doors = map (λ d. record { door = N.Door.door d; calls = N.Door.calls d }) doors.new.items;
+          lives = U.lives audit.new;
+        }
         exit }
     ensures files { files.new ≡ files.old }
     ensures numbers { numbers.new ≡ numbers.old }
@@ -70,8 +80,18 @@ fn run<R: Wait, N: Net, U: Audit>(
     requires { doors.old.items ≡ [] }
     ensures rest { U.rest audit.new ≡ U.rest audit.old }
     ensures run { IsRun words.now
-        record { binds = N.binds net.old; bind_faults = N.faults net.old; doors = []; lives = U.lives audit.old }
-        record { binds = N.binds net.new; bind_faults = N.faults net.new; doors = map (λ d. record { door = N.Door.door d; calls = N.Door.calls d }) doors.new.items; lives = U.lives audit.new }
+        record {
+          binds = N.binds net.old;
+          bind_faults = N.faults net.old;
+          doors = [];
+          lives = U.lives audit.old;
+        }
+        record {
+          binds = N.binds net.new;
+          bind_faults = N.faults net.new;
+          doors = map (λ d. record { door = N.Door.door d; calls = N.Door.calls d }) doors.new.items;
+          lives = U.lives audit.new;
+        }
         result }
 {
     if !is_line(words) {
@@ -96,8 +116,18 @@ fn serve<R: Wait, N: Net, U: Audit>(
     requires texts { AreTexts texts.now }
     ensures rest { U.rest audit.new ≡ U.rest audit.old }
     ensures run { (words : List (List ℕ)) → IsLine words → IsRun words
-        record { binds = N.binds net.old; bind_faults = N.faults net.old; doors = []; lives = U.lives audit.old }
-        record { binds = N.binds net.new; bind_faults = N.faults net.new; doors = map (λ d. record { door = N.Door.door d; calls = N.Door.calls d }) doors.new.items; lives = U.lives audit.new }
+        record {
+          binds = N.binds net.old;
+          bind_faults = N.faults net.old;
+          doors = [];
+          lives = U.lives audit.old;
+        }
+        record {
+          binds = N.binds net.new;
+          bind_faults = N.faults net.new;
+          doors = map (λ d. record { door = N.Door.door d; calls = N.Door.calls d }) doors.new.items;
+          lives = U.lives audit.new;
+        }
         result }
 {
     match listen(alloc, net, doors) {

@@ -15,8 +15,8 @@ use lg_io::{Accept, Door};
 use std::alloc::Global;
 use std::sync::Wait;
 
-/// Serves the links of a door, one after another, in a life that begins, until it is over, or the door closes, fails or finds no memory.
-/// It may wait forever.
+/// Serves the links of a door, one after another, in a life that begins, until it is over, or the door closes, fails or
+/// finds no memory. The door may have served others before. It may wait forever.
 pub fn serve_lane<R: Wait, D: Door>(
     rt: &R,
     alloc: Global,
@@ -59,8 +59,12 @@ pub fn serve_lane<R: Wait, D: Door>(
 fn next_link<R: Wait, D: Door>(rt: &R, alloc: Global, door: &mut D) -> Accept<D::Conn>
     ensures loud { result ≢ Quiet }
     ensures told { D.door door.new ≡ option_map (accepted (accept_kind result)) (D.door door.old) }
-    ensures fresh { IfConn result (λ link. IsFresh (D.door door.old)
-        record { received = D.Conn.received link; taken = D.Conn.taken link; read_faults = D.Conn.Source.faults link; write_faults = D.Conn.Sink.faults link }) }
+    ensures fresh { IfConn result (λ link. IsFresh (D.door door.old) record {
+          received = D.Conn.received link;
+          taken = D.Conn.taken link;
+          read_faults = D.Conn.Source.faults link;
+          write_faults = D.Conn.Sink.faults link;
+        }) }
     ensures calls { D.calls door.new ≡ D.calls door.old }
 {
     for _ in rt.forever() {
