@@ -15,3 +15,4 @@ pub mod MemoryNet
 pub mod Files
 pub mod MemoryFiles
 pub mod FileEvent
+pub mod Adapters
