@@ -16,3 +16,4 @@ pub mod Files
 pub mod MemoryFiles
 pub mod FileEvent
 pub mod Adapters
+pub mod StdioDoor

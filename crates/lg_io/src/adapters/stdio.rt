@@ -1,4 +1,8 @@
-ghost use Rattle.std.specs.Prelude.{◌≡◌, ℕ, None, IsTrue, false, refl};
+ghost use Rattle.std.specs.Prelude.{◌≡◌, ◌≢◌, ◌||◌, ◌↔◌, ◌⊎◌, None, Some, IfSome, IsTrue, IsErrOf, IfOk, OnErr, All, false, length, refl};
+ghost use Rattle.lg_io.specs.declared.door.Accept.TheVariants.{Closed};
+ghost use Rattle.lg_io.specs.declared.net.BindFault.TheVariants.{Failed};
+ghost use Rattle.lg_io.specs.Cause.{HasCause};
+ghost use Rattle.lg_io.specs.Door.{accept_kind, is_closing};
 ghost use Rattle.lg_io.specs.Rest.{of_door};
 
 use super::{ReaderSource, WriterSink};
@@ -17,9 +21,11 @@ pub struct StdioDoor<R, W, K> {
 }
 
 impl<R, W, K> StdioDoor<R, W, K> {
-    // A door that nobody used.
+    // A door on these streams that nobody used.
     fn new(reader: R, writer: W, clock: K) -> StdioDoor<R, W, K>
-        ensures { result.is_closed ≡ false }
+        ensures streams { result.streams ≡ Some (reader, writer) }
+        ensures clock { result.clock ≡ clock }
+        ensures unclosed { result.is_closed ≡ false }
     {
         StdioDoor {
             streams: Some((reader, writer)),
@@ -51,6 +57,8 @@ where
     W: Write + Drop + Send,
     K: Clock + Send,
 {
+    ghost use Rattle.lg_io.specs.StdioDoor.{HandsOut};
+
     type Conn = PairLink<ReaderSource<R>, WriterSink<W>>;
 
     ghost door = { λ _. None };
@@ -59,7 +67,13 @@ where
 
     ghost faults = { λ _. 0 };
 
-    fn accept(&mut self, _alloc: Global) -> Accept<PairLink<ReaderSource<R>, WriterSink<W>>> {
+    fn accept(&mut self, _alloc: Global) -> Accept<PairLink<ReaderSource<R>, WriterSink<W>>>
+        ensures answer { HandsOut self.old.streams result }
+        ensures streams { self.new.streams ≡ None }
+        ensures clock { self.new.clock ≡ self.old.clock }
+        ensures closed { IsTrue self.old.is_closed → result ≡ Closed }
+        ensures closes { self.new.is_closed ≡ (self.old.is_closed || is_closing (accept_kind result)) }
+    {
         match self.streams.take() {
             Some((reader, writer)) => Accept::Conn(PairLink {
                 source: ReaderSource::new(reader),
@@ -97,7 +111,8 @@ where
 {
     /// A net on this reader and this writer.
     pub fn new(reader: R, writer: W, clock: K) -> StdioNet<R, W, K>
-        ensures { ⟦<StdioNet<R, W, K> as Net>⟧.faults result ≡ 0 }
+        ensures parts { result.parts ≡ Some (reader, writer, clock) }
+        ensures faults { result.faults.met ≡ 0 }
     {
         StdioNet {
             parts: Some((reader, writer, clock)),
@@ -112,6 +127,8 @@ where
     W: Write + Drop + Send,
     K: Clock + Drop + Send,
 {
+    ghost use Rattle.lg_io.specs.StdioDoor.{IsDoorOver};
+
     type Door = StdioDoor<R, W, K>;
 
     ghost binds = { λ _. None };
@@ -124,19 +141,26 @@ where
         _address: &Text,
         _port: u16,
         n: u16,
-    ) -> Result<Vec<StdioDoor<R, W, K>>, BindFault> {
+    ) -> Result<Vec<StdioDoor<R, W, K>>, BindFault>
+        ensures count { IfOk result (λ doors. length doors.items ≡ n) }
+        ensures over { IfOk result (λ doors. IfSome self.old.parts (λ parts. All (IsDoorOver parts) doors.items)) }
+        ensures refused { IsErrOf result Failed ↔ ((n ≢ 1) ⊎ (self.old.parts ≡ None)) }
+        ensures once { IfOk result (λ _. self.new.parts ≡ None) }
+        ensures stays { OnErr result (self.new.parts ≡ self.old.parts) }
+        ensures cause { HasCause self.old.faults.met self.new.faults.met (IsErrOf result Failed) }
+    {
+        if n != 1 || self.parts.is_none() {
+            self.faults = self.faults.with_one_more();
+            return Err(BindFault::Failed);
+        }
         let Ok(mut doors) = Vec::with_capacity(alloc, 1) else {
             return Err(BindFault::NoMemory);
         };
-        if n == 1
-            && let Some((reader, writer, clock)) = self.parts.take()
+        if let Some((reader, writer, clock)) = self.parts.take()
+            && doors.push(StdioDoor::new(reader, writer, clock)).is_err()
         {
-            return match doors.push(StdioDoor::new(reader, writer, clock)) {
-                Ok(()) => Ok(doors),
-                Err(_) => Err(BindFault::NoMemory),
-            };
+            unreachable!()
         }
-        self.faults = self.faults.with_one_more();
-        Err(BindFault::Failed)
+        Ok(doors)
     }
 }
