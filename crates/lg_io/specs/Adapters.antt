@@ -1,10 +1,12 @@
 -- What objects over real things carry over from them. This project's own, after `std::io`.
-use Rattle.std.specs.Prelude.{ℕ, ◌==◌, ◌&&◌, nat_lt, Bool, true, false, if◌then◌else◌, List, take, Option, Result, Ok, Err}
+use Rattle.std.specs.Prelude.{ℕ, ◌≤◌, ◌==◌, ◌&&◌, nat_lt, Bool, true, false, if◌then◌else◌, List, length, take, Option, Result, Ok, Err}
 use Rattle.std.specs.Io.KnownBytes.{Appends}
 use Rattle.std.specs.IoError.{error_kind}
 use Rattle.std.specs.declared.io.Error.{Error}
 use Rattle.std.specs.declared.io.ErrorKind.{ErrorKind}
 use Rattle.std.specs.declared.io.ErrorKind.TheVariants.{WouldBlock, TimedOut, Interrupted}
+use Rattle.lg_io.specs.declared.files.FileRead.{FileRead}
+use Rattle.lg_io.specs.declared.files.FileRead.TheVariants as file
 use Rattle.lg_io.specs.declared.source.ReadStep.{ReadStep}
 use Rattle.lg_io.specs.declared.source.ReadStep.TheVariants.{Bytes, End, Quiet, Failed}
 use Rattle.lg_io.specs.declared.sink.WriteStep.{WriteStep}
@@ -21,6 +23,11 @@ is_passing kind = false
 abbrev pub step_of : ℕ → Result ℕ Error → ReadStep
 step_of room (Ok count) = if nat_lt 0 room && (count == 0) then End else Bytes count
 step_of room (Err error) = if is_passing (error_kind error) then Quiet else Failed
+
+-- what was found has at most so many bytes
+abbrev pub IsFoundWithin : ℕ → FileRead → Type 0
+IsFoundWithin most (file.Found bytes) = length bytes.items ≤ most
+IsFoundWithin most answer = Unit {0}
 
 -- what was taken stands behind what the writer held; where the write failed, some front of the piece
 abbrev pub Carries : WriteStep → Option (List ℕ) → Option (List ℕ) → List ℕ → Type 0
