@@ -2,9 +2,11 @@
 use Rattle.std.specs.Prelude.{ℕ, ◌≤◌, ◌==◌, ◌&&◌, nat_lt, Bool, true, false, if◌then◌else◌, List, length, take, Option, Result, Ok, Err}
 use Rattle.std.specs.Io.KnownBytes.{Appends}
 use Rattle.std.specs.IoError.{error_kind}
+use Rattle.std.specs.declared.alloc.Global.{Global}
 use Rattle.std.specs.declared.io.Error.{Error}
 use Rattle.std.specs.declared.io.ErrorKind.{ErrorKind}
-use Rattle.std.specs.declared.io.ErrorKind.TheVariants.{WouldBlock, TimedOut, Interrupted}
+use Rattle.std.specs.declared.io.ErrorKind.TheVariants.{NotFound, OutOfMemory, WouldBlock, TimedOut, Interrupted}
+use Rattle.std.specs.declared.vec.Vec.{Vec}
 use Rattle.lg_io.specs.declared.files.FileRead.{FileRead}
 use Rattle.lg_io.specs.declared.files.FileRead.TheVariants as file
 use Rattle.lg_io.specs.declared.source.ReadStep.{ReadStep}
@@ -23,6 +25,17 @@ is_passing kind = false
 abbrev pub step_of : ℕ → Result ℕ Error → ReadStep
 step_of room (Ok count) = if nat_lt 0 room && (count == 0) then End else Bytes count
 step_of room (Err error) = if is_passing (error_kind error) then Quiet else Failed
+
+-- the answer that stands for an error at reading a file
+abbrev pub unread_at : ErrorKind → FileRead
+unread_at NotFound = file.Absent
+unread_at OutOfMemory = file.NoMemory
+unread_at kind = file.Failed
+
+-- the answer that stands for what came of reading a file
+abbrev pub file_read_of : Result (Vec ℕ Global) Error → FileRead
+file_read_of (Ok bytes) = file.Found bytes
+file_read_of (Err error) = unread_at (error_kind error)
 
 -- what was found has at most so many bytes
 abbrev pub IsFoundWithin : ℕ → FileRead → Type 0

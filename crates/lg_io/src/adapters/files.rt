@@ -1,5 +1,5 @@
 ghost use Rattle.std.specs.Prelude.{◌≡◌, ◌^◌, ◌-◌, ◌<◌, ◌≤◌, None, IfSome, IsErr, IfOk, vec_len};
-ghost use Rattle.lg_io.specs.Adapters.{IsFoundWithin};
+ghost use Rattle.lg_io.specs.Adapters.{IsFoundWithin, file_read_of};
 ghost use Rattle.lg_io.specs.Cause.{HasCause};
 
 use crate::{FaultCount, FileRead, Files};
@@ -53,17 +53,11 @@ impl<R: rt::Files> Files for DiskFiles<R> {
         ensures cause { HasCause self.old.faults.met self.new.faults.met (result ≡ FileRead.Failed) }
         ensures most { IsFoundWithin MOST_BYTES result }
     {
-        match read_file(&self.runtime, alloc, path.as_str()) {
-            Ok(bytes) => FileRead::Found(bytes),
-            Err(error) => match error.kind() {
-                ErrorKind::NotFound => FileRead::Absent,
-                ErrorKind::OutOfMemory => FileRead::NoMemory,
-                _ => {
-                    self.faults = self.faults.with_one_more();
-                    FileRead::Failed
-                }
-            },
+        let answer = file_read_of(read_file(&self.runtime, alloc, path.as_str()));
+        if let FileRead::Failed = answer {
+            self.faults = self.faults.with_one_more();
         }
+        answer
     }
 
     fn create(&mut self, path: &Text) -> Result<(), Failed> {
@@ -100,6 +94,20 @@ impl<R: rt::Files> Files for DiskFiles<R> {
     fn make_folder(&mut self, path: &Text) -> Result<(), Failed> {
         let made = fs::create_dir_all(&self.runtime, path.as_str());
         self.counted(made)
+    }
+}
+
+/// The answer that stands for what came of reading a file.
+fn file_read_of(read: io::Result<Vec<u8>>) -> FileRead
+    ensures { result ≡ file_read_of read }
+{
+    match read {
+        Ok(bytes) => FileRead::Found(bytes),
+        Err(error) => match error.kind() {
+            ErrorKind::NotFound => FileRead::Absent,
+            ErrorKind::OutOfMemory => FileRead::NoMemory,
+            _ => FileRead::Failed,
+        },
     }
 }
 
