@@ -27,7 +27,8 @@ impl<S: Source, K: Sink> Source for PairLink<S, K> {
 
     fn read(&mut self, buf: &mut [u8]) -> ReadStep
         ensures count { FitsBuffer result (length buf.old) }
-        ensures told { S.received self.new.source ≡ option_map (received_after result buf.new) (S.received self.old.source) }
+        ensures told { S.received self.new.source ≡
+            option_map (received_after result buf.new) (S.received self.old.source) }
         ensures over { IsTrue (S.is_over self.old.source) → result ≡ End }
         ensures ends { S.is_over self.new.source ≡ (S.is_over self.old.source || is_end result) }
         ensures cause { HasCause (S.faults self.old.source) (S.faults self.new.source) (result ≡ read.Failed) }

@@ -1,4 +1,4 @@
-ghost use Rattle.std.specs.Prelude.{◌≡◌, ◌≢◌, ◌||◌, ◌↔◌, ◌⊎◌, None, Some, IfSome, IsTrue, IsErrOf, IfOk, OnErr, All, false, length, refl};
+ghost use Rattle.std.specs.Prelude.{◌≡◌, ◌≢◌, ◌^◌, ◌<◌, ◌≤◌, ◌||◌, ◌↔◌, ◌⊎◌, None, Some, IfSome, IsTrue, IsErrOf, IfOk, OnErr, All, false, length, refl};
 ghost use Rattle.lg_io.specs.declared.door.Accept.TheVariants.{Closed};
 ghost use Rattle.lg_io.specs.declared.net.BindFault.TheVariants.{Failed};
 ghost use Rattle.lg_io.specs.Cause.{HasCause};
@@ -42,11 +42,21 @@ impl<R: Read + Drop, W: Write + Drop, K: Clock> Clock for StdioDoor<R, W, K> {
 
     ghost rest = { λ d. of_door None 0 d.is_closed };
 
-    fn now(&mut self) -> Moment {
+    fn now(&mut self) -> Moment
+        ensures bound { result.0 < 2 ^ 62 }
+        ensures later { K.latest self.old.clock ≤ result.0 }
+        ensures latest { K.latest self.new.clock ≡ result.0 }
+        ensures streams { self.new.streams ≡ self.old.streams }
+        ensures closed { self.new.is_closed ≡ self.old.is_closed }
+    {
         self.clock.now()
     }
 
-    fn pause(&mut self, ms: u32) {
+    fn pause(&mut self, ms: u32)
+        ensures latest { K.latest self.new.clock ≡ K.latest self.old.clock }
+        ensures streams { self.new.streams ≡ self.old.streams }
+        ensures closed { self.new.is_closed ≡ self.old.is_closed }
+    {
         self.clock.pause(ms);
     }
 }
@@ -86,7 +96,9 @@ where
         }
     }
 
-    fn done(&mut self, _link: PairLink<ReaderSource<R>, WriterSink<W>>) {}
+    fn done(&mut self, _link: PairLink<ReaderSource<R>, WriterSink<W>>)
+        ensures { self.new ≡ self.old }
+    {}
 
     ghost clock_rest = { λ d. refl };
 
