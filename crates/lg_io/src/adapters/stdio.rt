@@ -1,9 +1,11 @@
-ghost use Rattle.std.specs.Prelude.{◌≡◌, ◌≢◌, ◌^◌, ◌<◌, ◌≤◌, ◌||◌, ◌↔◌, ◌⊎◌, None, Some, IfSome, IsTrue, IsErrOf, IfOk, OnErr, All, false, length, refl};
+ghost use Rattle.std.specs.Prelude.{◌≡◌, ◌≢◌, ◌^◌, ◌<◌, ◌≤◌, ◌||◌, ◌↔◌, ◌⊎◌, [], ◌∷◌, None, Some, IfSome, IsTrue, IsErrOf, IfOk, OnErr, All, false, length, refl};
 ghost use Rattle.lg_io.specs.declared.door.Accept.TheVariants.{Closed};
 ghost use Rattle.lg_io.specs.declared.net.BindFault.TheVariants.{Failed};
 ghost use Rattle.lg_io.specs.Cause.{HasCause};
+ghost use Rattle.lg_io.specs.Clock.{reading, pause};
 ghost use Rattle.lg_io.specs.Door.{accept_kind, is_closing};
 ghost use Rattle.lg_io.specs.Rest.{of_door};
+ghost use Rattle.lg_io.specs.Tells.{TellsOn};
 
 use super::{ReaderSource, WriterSink};
 use crate::{Accept, BindFault, Clock, Door, FaultCount, Net, PairLink};
@@ -46,6 +48,7 @@ impl<R: Read + Drop, W: Write + Drop, K: Clock> Clock for StdioDoor<R, W, K> {
         ensures bound { result.0 < 2 ^ 62 }
         ensures later { K.latest self.old.clock ≤ result.0 }
         ensures latest { K.latest self.new.clock ≡ result.0 }
+        ensures asked { TellsOn (K.calls self.old.clock) (K.calls self.new.clock) (reading result.0 ∷ []) }
         ensures streams { self.new.streams ≡ self.old.streams }
         ensures closed { self.new.is_closed ≡ self.old.is_closed }
     {
@@ -54,6 +57,7 @@ impl<R: Read + Drop, W: Write + Drop, K: Clock> Clock for StdioDoor<R, W, K> {
 
     fn pause(&mut self, ms: u32)
         ensures latest { K.latest self.new.clock ≡ K.latest self.old.clock }
+        ensures asked { TellsOn (K.calls self.old.clock) (K.calls self.new.clock) (pause ms ∷ []) }
         ensures streams { self.new.streams ≡ self.old.streams }
         ensures closed { self.new.is_closed ≡ self.old.is_closed }
     {
