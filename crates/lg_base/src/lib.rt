@@ -6,10 +6,14 @@ mod amounts;
 mod faults;
 mod moment;
 mod names;
+mod steps;
+mod tally;
 mod texts;
 
 pub use amounts::Amounts;
 pub use faults::{Failed, NoMemory};
 pub use moment::Moment;
 pub use names::{Name, TaskId, WorkerId};
+pub use steps::Steps;
+pub use tally::Tally;
 pub use texts::{Text, TextFault};

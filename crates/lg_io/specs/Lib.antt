@@ -15,3 +15,5 @@ pub mod MemoryNet
 pub mod Files
 pub mod MemoryFiles
 pub mod FileEvent
+pub mod Adapters
+pub mod StdioDoor

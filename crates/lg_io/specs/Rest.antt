@@ -3,8 +3,8 @@ use Rattle.std.specs.Prelude.{ℕ, Bool, List, Option}
 use Rattle.lg_io.specs.Source.{Received}
 use Rattle.lg_io.specs.Door.{DoorTold}
 
--- nothing; what the source or the sink of the same link tells, with its faults, or the door of the same clock; of a source
--- and a door also whether it is over
+-- nothing; or what the source or the sink of the same link tells, or the door of the same clock, with its faults; of a
+-- source also whether it answered its end, and of a door whether it is closed
 pub data Rest : Type 0 where
   nothing : Rest
   of_source : Option Received → ℕ → Bool → Rest

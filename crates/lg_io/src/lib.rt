@@ -9,7 +9,6 @@
 mod adapters;
 mod clock;
 mod door;
-mod fault_count;
 mod files;
 mod link;
 mod memory;
@@ -25,8 +24,8 @@ pub use adapters::{
 };
 pub use clock::Clock;
 pub use door::{Accept, Door};
-use fault_count::FaultCount;
 pub use files::{FileRead, Files};
+use lg_base::Tally as FaultCount;
 pub use link::Link;
 pub use memory::{
     Answer, Appearance, BindEvent, CallList, ClockEvent, FaultList, FaultPlan, MemoryClock,

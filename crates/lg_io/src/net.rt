@@ -36,6 +36,7 @@ pub trait Net {
         ensures count { IfOk result (λ doors. length doors.items ≡ n) }
         ensures unused { IfOk result (λ doors. All (λ d.
             IsUnused (Self.Door.door d) (Self.Door.calls d) (Self.Door.faults d) (Self.Door.is_closed d)) doors.items) }
-        ensures told { TellsOn (binds self.old) (binds self.new) (record { address = address.now; port = port; doors = n } ∷ []) }
+        ensures told { TellsOn (binds self.old) (binds self.new)
+            (record { address = address.now; port = port; doors = n } ∷ []) }
         ensures cause { HasCause (faults self.old) (faults self.new) (IsErrOf result Failed) };
 }

@@ -1,4 +1,5 @@
-ghost use Rattle.std.specs.Prelude.{◌≡◌, None, IsErr};
+ghost use Rattle.std.specs.Prelude.{◌≡◌, ◌^◌, ◌-◌, ◌<◌, ◌≤◌, None, IfSome, IsErr, IfOk, vec_len};
+ghost use Rattle.lg_io.specs.Adapters.{IsFoundWithin, file_read_of};
 ghost use Rattle.lg_io.specs.Cause.{HasCause};
 
 use crate::{FaultCount, FileRead, Files};
@@ -7,6 +8,9 @@ use std::alloc::Global;
 use std::fs::{self, OpenOptions};
 use std::io::{self, ErrorKind, Read, Write};
 use std::rt;
+
+/// The most bytes of a file that is read.
+const MOST_BYTES: u64 = 1 << 30;
 
 /// The files of the system, each by its path. They don't tell what they hold.
 #[derive(Drop)]
@@ -45,18 +49,15 @@ impl<R: rt::Files> Files for DiskFiles<R> {
 
     ghost faults = { λ f. f.faults.met };
 
-    fn read(&mut self, alloc: Global, path: &Text) -> FileRead {
-        match read_all(&self.runtime, alloc, path.as_str()) {
-            Ok(bytes) => FileRead::Found(bytes),
-            Err(error) => match error.kind() {
-                ErrorKind::NotFound => FileRead::Absent,
-                ErrorKind::OutOfMemory => FileRead::NoMemory,
-                _ => {
-                    self.faults = self.faults.with_one_more();
-                    FileRead::Failed
-                }
-            },
+    fn read(&mut self, alloc: Global, path: &Text) -> FileRead
+        ensures cause { HasCause self.old.faults.met self.new.faults.met (result ≡ FileRead.Failed) }
+        ensures most { IsFoundWithin MOST_BYTES result }
+    {
+        let answer = file_read_of(read_file(&self.runtime, alloc, path.as_str()));
+        if let FileRead::Failed = answer {
+            self.faults = self.faults.with_one_more();
         }
+        answer
     }
 
     fn create(&mut self, path: &Text) -> Result<(), Failed> {
@@ -96,10 +97,41 @@ impl<R: rt::Files> Files for DiskFiles<R> {
     }
 }
 
-/// All bytes of a file.
-fn read_all(files: &impl rt::Files, alloc: Global, path: &str) -> io::Result<Vec<u8>> {
+/// The answer that stands for what came of reading a file.
+fn file_read_of(read: io::Result<Vec<u8>>) -> FileRead
+    ensures { result ≡ file_read_of read }
+{
+    match read {
+        Ok(bytes) => FileRead::Found(bytes),
+        Err(error) => match error.kind() {
+            ErrorKind::NotFound => FileRead::Absent,
+            ErrorKind::OutOfMemory => FileRead::NoMemory,
+            _ => FileRead::Failed,
+        },
+    }
+}
+
+/// All bytes of a file that has no more than `MOST_BYTES`.
+fn read_file(files: &impl rt::Files, alloc: Global, path: &str) -> io::Result<Vec<u8>>
+    ensures { IfOk result (λ bytes. vec_len bytes ≤ MOST_BYTES) }
+{
+    read_within(alloc, fs::open(files, path)?, MOST_BYTES)
+}
+
+/// All bytes of a reader that has no more than `most`. Of a longer one it reads one byte more than that, and the error
+/// is `FileTooLarge`.
+pub(super) fn read_within<R: Read>(alloc: Global, reader: R, most: u64) -> io::Result<Vec<u8>>
+where
+    R: Drop,
+    requires { most < 2 ^ 64 - 1 }
+    ensures within { IfOk result (λ bytes. vec_len bytes ≤ most) }
+    ensures whole { IfOk result (λ bytes. IfSome (R.remaining reader) (λ all. bytes.items ≡ all)) }
+{
     let mut bytes = Vec::new(alloc);
-    fs::open(files, path)?.read_to_end(&mut bytes)?;
+    reader.take(most + 1).read_to_end(&mut bytes)?;
+    if bytes.len() as u64 > most {
+        return Err(io::Error::from(ErrorKind::FileTooLarge));
+    }
     Ok(bytes)
 }
 

@@ -1,5 +1,11 @@
-ghost use Rattle.std.specs.Prelude.{◌≡◌, ℕ, None, IsTrue, false, refl};
+ghost use Rattle.std.specs.Prelude.{◌≡◌, ◌≢◌, ◌^◌, ◌<◌, ◌≤◌, ◌||◌, ◌↔◌, ◌⊎◌, [], ◌∷◌, None, Some, IfSome, IsTrue, IsErrOf, IfOk, OnErr, All, false, length, refl};
+ghost use Rattle.lg_io.specs.declared.door.Accept.TheVariants.{Closed};
+ghost use Rattle.lg_io.specs.declared.net.BindFault.TheVariants.{Failed};
+ghost use Rattle.lg_io.specs.Cause.{HasCause};
+ghost use Rattle.lg_io.specs.Clock.{reading, pause};
+ghost use Rattle.lg_io.specs.Door.{accept_kind, is_closing};
 ghost use Rattle.lg_io.specs.Rest.{of_door};
+ghost use Rattle.lg_io.specs.Tells.{TellsOn};
 
 use super::{ReaderSource, WriterSink};
 use crate::{Accept, BindFault, Clock, Door, FaultCount, Net, PairLink};
@@ -17,9 +23,11 @@ pub struct StdioDoor<R, W, K> {
 }
 
 impl<R, W, K> StdioDoor<R, W, K> {
-    // A door that nobody used.
+    // A door on these streams that nobody used.
     fn new(reader: R, writer: W, clock: K) -> StdioDoor<R, W, K>
-        ensures { result.is_closed ≡ false }
+        ensures streams { result.streams ≡ Some (reader, writer) }
+        ensures clock { result.clock ≡ clock }
+        ensures unclosed { result.is_closed ≡ false }
     {
         StdioDoor {
             streams: Some((reader, writer)),
@@ -36,11 +44,23 @@ impl<R: Read + Drop, W: Write + Drop, K: Clock> Clock for StdioDoor<R, W, K> {
 
     ghost rest = { λ d. of_door None 0 d.is_closed };
 
-    fn now(&mut self) -> Moment {
+    fn now(&mut self) -> Moment
+        ensures bound { result.0 < 2 ^ 62 }
+        ensures later { K.latest self.old.clock ≤ result.0 }
+        ensures latest { K.latest self.new.clock ≡ result.0 }
+        ensures asked { TellsOn (K.calls self.old.clock) (K.calls self.new.clock) (reading result.0 ∷ []) }
+        ensures streams { self.new.streams ≡ self.old.streams }
+        ensures closed { self.new.is_closed ≡ self.old.is_closed }
+    {
         self.clock.now()
     }
 
-    fn pause(&mut self, ms: u32) {
+    fn pause(&mut self, ms: u32)
+        ensures latest { K.latest self.new.clock ≡ K.latest self.old.clock }
+        ensures asked { TellsOn (K.calls self.old.clock) (K.calls self.new.clock) (pause ms ∷ []) }
+        ensures streams { self.new.streams ≡ self.old.streams }
+        ensures closed { self.new.is_closed ≡ self.old.is_closed }
+    {
         self.clock.pause(ms);
     }
 }
@@ -51,6 +71,8 @@ where
     W: Write + Drop + Send,
     K: Clock + Send,
 {
+    ghost use Rattle.lg_io.specs.StdioDoor.{HandsOut};
+
     type Conn = PairLink<ReaderSource<R>, WriterSink<W>>;
 
     ghost door = { λ _. None };
@@ -59,7 +81,13 @@ where
 
     ghost faults = { λ _. 0 };
 
-    fn accept(&mut self, _alloc: Global) -> Accept<PairLink<ReaderSource<R>, WriterSink<W>>> {
+    fn accept(&mut self, _alloc: Global) -> Accept<PairLink<ReaderSource<R>, WriterSink<W>>>
+        ensures answer { HandsOut self.old.streams result }
+        ensures streams { self.new.streams ≡ None }
+        ensures clock { self.new.clock ≡ self.old.clock }
+        ensures closed { IsTrue self.old.is_closed → result ≡ Closed }
+        ensures closes { self.new.is_closed ≡ (self.old.is_closed || is_closing (accept_kind result)) }
+    {
         match self.streams.take() {
             Some((reader, writer)) => Accept::Conn(PairLink {
                 source: ReaderSource::new(reader),
@@ -72,7 +100,9 @@ where
         }
     }
 
-    fn done(&mut self, _link: PairLink<ReaderSource<R>, WriterSink<W>>) {}
+    fn done(&mut self, _link: PairLink<ReaderSource<R>, WriterSink<W>>)
+        ensures { self.new ≡ self.old }
+    {}
 
     ghost clock_rest = { λ d. refl };
 
@@ -97,7 +127,8 @@ where
 {
     /// A net on this reader and this writer.
     pub fn new(reader: R, writer: W, clock: K) -> StdioNet<R, W, K>
-        ensures { ⟦<StdioNet<R, W, K> as Net>⟧.faults result ≡ 0 }
+        ensures parts { result.parts ≡ Some (reader, writer, clock) }
+        ensures faults { result.faults.met ≡ 0 }
     {
         StdioNet {
             parts: Some((reader, writer, clock)),
@@ -112,6 +143,8 @@ where
     W: Write + Drop + Send,
     K: Clock + Drop + Send,
 {
+    ghost use Rattle.lg_io.specs.StdioDoor.{IsDoorOver};
+
     type Door = StdioDoor<R, W, K>;
 
     ghost binds = { λ _. None };
@@ -124,19 +157,26 @@ where
         _address: &Text,
         _port: u16,
         n: u16,
-    ) -> Result<Vec<StdioDoor<R, W, K>>, BindFault> {
+    ) -> Result<Vec<StdioDoor<R, W, K>>, BindFault>
+        ensures count { IfOk result (λ doors. length doors.items ≡ n) }
+        ensures over { IfOk result (λ doors. IfSome self.old.parts (λ parts. All (IsDoorOver parts) doors.items)) }
+        ensures refused { IsErrOf result Failed ↔ ((n ≢ 1) ⊎ (self.old.parts ≡ None)) }
+        ensures once { IfOk result (λ _. self.new.parts ≡ None) }
+        ensures stays { OnErr result (self.new.parts ≡ self.old.parts) }
+        ensures cause { HasCause self.old.faults.met self.new.faults.met (IsErrOf result Failed) }
+    {
+        if n != 1 || self.parts.is_none() {
+            self.faults = self.faults.with_one_more();
+            return Err(BindFault::Failed);
+        }
         let Ok(mut doors) = Vec::with_capacity(alloc, 1) else {
             return Err(BindFault::NoMemory);
         };
-        if n == 1
-            && let Some((reader, writer, clock)) = self.parts.take()
+        if let Some((reader, writer, clock)) = self.parts.take()
+            && doors.push(StdioDoor::new(reader, writer, clock)).is_err()
         {
-            return match doors.push(StdioDoor::new(reader, writer, clock)) {
-                Ok(()) => Ok(doors),
-                Err(_) => Err(BindFault::NoMemory),
-            };
+            unreachable!()
         }
-        self.faults = self.faults.with_one_more();
-        Err(BindFault::Failed)
+        Ok(doors)
     }
 }

@@ -1,5 +1,8 @@
+use super::files::read_within;
 use super::*;
-use crate::{Accept, BindFault, Clock, Door, Net, Numbers, ReadStep, Sink, Source, WriteStep};
+use crate::{
+    Accept, BindFault, Clock, Door, Net, Numbers, ReadStep, Sink, Source, WriteStep, write_all,
+};
 use lg_base::{Moment, Text};
 use std::io::{ErrorKind, Read, Write};
 use std::random::RandomSource;
@@ -25,6 +28,23 @@ impl Read for Line {
             Some(kind) => Err(io::Error::from(kind)),
             None => Ok(0),
         }
+    }
+}
+
+/// Is at its end at first, and then has bytes again.
+#[derive(Drop)]
+struct Terminal {
+    reads: usize,
+}
+
+impl Read for Terminal {
+    fn read(&mut self, buf: &mut [u8]) -> io::Result<usize> {
+        self.reads = self.reads.saturating_add(1);
+        if self.reads == 1 {
+            return Ok(0);
+        }
+        buf.fill(b'x');
+        Ok(buf.len())
     }
 }
 
@@ -106,6 +126,57 @@ fn reader_answers_by_the_kind_of_error(rt: HostRuntime) -> Result<(), Fail> {
 }
 
 #[test]
+fn source_gives_what_its_reader_gives(rt: HostRuntime) {
+    let mut source = ReaderSource::new(b"abc".as_slice());
+    let mut buf = [0; 2];
+    assert_eq!(rt; source.read(&mut []), ReadStep::Bytes(0));
+    assert_eq!(rt; source.read(&mut buf), ReadStep::Bytes(2));
+    assert_eq!(rt; buf, *b"ab");
+    assert_eq!(rt; source.read(&mut buf), ReadStep::Bytes(1));
+    assert_eq!(rt; buf, *b"cb");
+    assert_eq!(rt; source.read(&mut buf), ReadStep::End);
+}
+
+#[test]
+fn source_leaves_its_reader_alone_behind_the_end(rt: HostRuntime) {
+    let mut terminal = Terminal { reads: 0 };
+    let mut source = ReaderSource::new(&mut terminal);
+    let mut buf = [0; 2];
+    for _ in 0..3 {
+        assert_eq!(rt; source.read(&mut buf), ReadStep::End);
+    }
+    assert_eq!(rt; terminal.reads, 1);
+}
+
+#[test]
+fn sink_gives_its_writer_what_it_takes(rt: HostRuntime) -> Result<(), Fail> {
+    let mut bytes = b"<".to_vec(rt.alloc())?;
+    let mut sink = WriterSink::new(&mut bytes);
+    assert!(rt; write_all(&mut sink, b"ab").is_ok());
+    assert!(rt; write_all(&mut sink, b"c").is_ok());
+    assert_eq!(rt; bytes.as_slice(), b"<abc".as_slice());
+    Ok(())
+}
+
+#[test]
+fn files_are_read_up_to_their_most_bytes(rt: HostRuntime) -> Result<(), Fail> {
+    for (most, fits) in [(0, false), (2, false), (3, true), (4, true)] {
+        match read_within(rt.alloc(), b"abc".as_slice(), most) {
+            Ok(bytes) => {
+                assert!(rt; fits, "at {most}");
+                assert_eq!(rt; bytes.as_slice(), b"abc".as_slice());
+            }
+            Err(error) => {
+                assert!(rt; !fits, "at {most}");
+                assert_eq!(rt; error.kind(), ErrorKind::FileTooLarge);
+            }
+        }
+    }
+    assert!(rt; read_within(rt.alloc(), b"".as_slice(), 0)?.is_empty());
+    Ok(())
+}
+
+#[test]
 fn writer_fails_where_it_takes_nothing(rt: HostRuntime) {
     let mut sink = WriterSink::new(Room { left: 3 });
     assert_eq!(rt; sink.write(b"ab"), WriteStep::Took(2));
@@ -160,6 +231,7 @@ fn standard_streams_are_one_door(rt: HostRuntime) -> Result<(), Fail> {
     let Accept::Conn(mut link) = door.accept(rt.alloc()) else {
         return Err(Fail::from("no link"));
     };
+    assert_eq!(rt; link.read(&mut [0; 4]), ReadStep::Bytes(1));
     assert_eq!(rt; link.write(b"out"), WriteStep::Took(3));
     door.done(link);
     assert!(rt; matches!(door.accept(rt.alloc()), Accept::Closed));

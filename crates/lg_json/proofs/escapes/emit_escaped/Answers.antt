@@ -1,7 +1,7 @@
 use Rattle.std.proofs.Common.{◌∙◌, sym, ap, length}
 use Rattle.lg_json.specs.Escapes.{escape}
 use Rattle.lg_json.proofs.Characters.{escaped_past_char, escaped_nothing}
-use Rattle.lg_io.proofs.Sequence.{UpTo-piece, UpTo-failed, UpTo-end}
+use Rattle.lg_io.proofs.CallerLemmas.{UpTo-piece, UpTo-failed, UpTo-end}
 use Rattle.lg_json.proofs.escapes.emit_escaped.Goals as goal
 
 pub returns-in_err-write_all : goal.returns-in_err-write_all

@@ -3,7 +3,7 @@ use denote.Text.{Utf8}
 use denote.Shadow.{shadow}
 use Rattle.std.specs.Prelude.{chars}
 use Rattle.lg_json.specs.Escapes.{escaped}
-use Rattle.lg_io.proofs.Sequence.{WritesUpTo}
+use Rattle.lg_io.proofs.CallerLemmas.{WritesUpTo}
 use Rattle.lg_json.proofs.escapes.emit_escaped.Given as goal
 
 abbrev pub invariant-loop-characters : goal.invariant-loop-characters

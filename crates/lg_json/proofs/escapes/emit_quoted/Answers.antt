@@ -2,7 +2,7 @@ use Rattle.std.proofs.Common.{[], ◌∷◌, ◌++◌}
 use Rattle.std.specs.Prelude.{chars}
 use Rattle.lg_json.specs.Escapes.{escaped}
 use Rattle.lg_json.specs.Text.{quoted}
-use Rattle.lg_io.proofs.Sequence.{UpTo-start, UpTo-piece, UpTo-failed, UpTo-last}
+use Rattle.lg_io.proofs.CallerLemmas.{UpTo-start, UpTo-piece, UpTo-failed, UpTo-last}
 use Rattle.lg_json.proofs.escapes.emit_quoted.Goals as goal
 
 pub returns-in_err-write_all : goal.returns-in_err-write_all

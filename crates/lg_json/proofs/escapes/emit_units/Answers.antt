@@ -1,7 +1,7 @@
 use Rattle.std.proofs.Common.{◌≡◌, ℕ, List, ◌++◌, ◌+◌, drop, flat_map, length, get_or, ◌<◌, arith}
 use Rattle.std.proofs.lemmas.List.{at_drop_more}
 use Rattle.lg_json.specs.Escapes.{unit_escape}
-use Rattle.lg_io.proofs.Sequence.{UpTo-start, UpTo-piece, UpTo-failed}
+use Rattle.lg_io.proofs.CallerLemmas.{UpTo-start, UpTo-piece, UpTo-failed}
 use Rattle.lg_json.proofs.escapes.emit_units.Goals as goal
 
 -- the escape of the unit at hand comes next

@@ -1,6 +1,6 @@
 use Rattle.std.proofs.Common.{drop, flat_map}
 use Rattle.lg_json.specs.Escapes.{unit_escape}
-use Rattle.lg_io.proofs.Sequence.{WritesUpTo}
+use Rattle.lg_io.proofs.CallerLemmas.{WritesUpTo}
 use Rattle.lg_json.proofs.escapes.emit_units.Given as goal
 
 abbrev pub invariant-loop-unit : goal.invariant-loop-unit

@@ -4,7 +4,7 @@ use Rattle.lg_json.specs.declared.out.Out.{the_lemmas}
 use Rattle.lg_json.specs.Text.{text_of, list_text, object_text, member_text, quoted}
 use Rattle.lg_json.specs.Tree.{tree_of, str, object, trees_view, members_view}
 use Rattle.lg_json.proofs.Commas.{with_commas-after}
-use Rattle.lg_io.proofs.Sequence.{UpTo-start, UpTo-piece, UpTo-failed, UpTo-last}
+use Rattle.lg_io.proofs.CallerLemmas.{UpTo-start, UpTo-piece, UpTo-failed, UpTo-last}
 use Rattle.lg_json.proofs.Trees.{next_text, next_member}
 use Rattle.lg_json.proofs.out.+emit.Goals as goal
 

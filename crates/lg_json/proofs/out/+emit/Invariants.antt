@@ -2,7 +2,7 @@ use Rattle.std.proofs.Common.{◌∷◌, [], ◌++◌, drop}
 use Rattle.lg_json.specs.Text.{list_text, object_text, texts_of, member_texts_of}
 use Rattle.lg_json.specs.Tree.{trees_view, members_view}
 use Rattle.lg_json.proofs.Commas.{after_separator}
-use Rattle.lg_io.proofs.Sequence.{WritesUpTo}
+use Rattle.lg_io.proofs.CallerLemmas.{WritesUpTo}
 use Rattle.lg_json.proofs.out.+emit.Given as goal
 
 abbrev pub invariant-emit_list-loop-item : goal.invariant-emit_list-loop-item

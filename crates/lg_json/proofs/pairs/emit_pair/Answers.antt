@@ -1,5 +1,5 @@
 use Rattle.std.proofs.Common.{[], ◌∷◌}
-use Rattle.lg_io.proofs.Sequence.{UpTo-start, UpTo-piece, UpTo-failed, UpTo-last}
+use Rattle.lg_io.proofs.CallerLemmas.{UpTo-start, UpTo-piece, UpTo-failed, UpTo-last}
 use Rattle.lg_json.specs.Canonical.{pair_text}
 use Rattle.lg_json.specs.Text.{quoted}
 use Rattle.lg_json.proofs.pairs.emit_pair.Goals as goal

@@ -1,7 +1,7 @@
 use Rattle.std.proofs.Common.{◌≡◌, [], ◌∷◌, drop, take, arith}
 use Rattle.std.proofs.lemmas.List.{drop_all, take_all}
 use Rattle.std.proofs.lemmas.List.Elements.{All-nil}
-use Rattle.lg_io.proofs.Sequence.{UpTo-start, UpTo-piece, UpTo-failed, UpTo-last}
+use Rattle.lg_io.proofs.CallerLemmas.{UpTo-start, UpTo-piece, UpTo-failed, UpTo-last}
 use Rattle.lg_json.specs.Canonical.{pair_text, canonical_text, AreTexts}
 use Rattle.lg_json.proofs.Commas.{with_commas-after}
 use Rattle.lg_json.proofs.PairTexts.{next_pair, AreTexts-next, OnOk-anyway}

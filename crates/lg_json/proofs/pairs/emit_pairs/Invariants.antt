@@ -1,5 +1,5 @@
 use Rattle.std.proofs.Common.{[], ◌∷◌, ◌++◌, drop, map, take}
-use Rattle.lg_io.proofs.Sequence.{WritesUpTo}
+use Rattle.lg_io.proofs.CallerLemmas.{WritesUpTo}
 use Rattle.lg_json.specs.Canonical.{pair_text, canonical_text, AreTexts}
 use Rattle.lg_json.proofs.Commas.{after_separator}
 use Rattle.lg_json.proofs.pairs.emit_pairs.Given as goal

@@ -20,11 +20,11 @@ use denote.Triple.Entry.{on_entry, alive}
 use denote.Triple.Spec.{Meets, triple_of}
 use denote.Triple.Table.{entered}
 use denote.Triple.Walked.{says, Stays, walk_of, Walks, ends_at, walked, walk_Meets}
-use Rattle.lg_io.specs.contracts.fault_count.FaultCount.none.Key.{name as key}
-use Rattle.lg_io.specs.contracts.fault_count.FaultCount.none as f
-use Rattle.lg_io.proofs.fault_count.FaultCount.none.Statement as stated
-use Rattle.lg_io.proofs.fault_count.FaultCount.none.Code as code
-use Rattle.lg_io.specs.contracts.fault_count.FaultCount as made
+use Rattle.lg_base.specs.contracts.tally.Tally.none.Key.{name as key}
+use Rattle.lg_base.specs.contracts.tally.Tally.none as f
+use Rattle.lg_base.proofs.tally.Tally.none.Statement as stated
+use Rattle.lg_base.proofs.tally.Tally.none.Code as code
+use Rattle.lg_base.specs.contracts.tally.Tally as made
 
 abbrev stayed : Stays (f.ended).signature.params (f.ended).kept
 stayed = tt

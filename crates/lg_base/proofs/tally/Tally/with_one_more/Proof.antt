@@ -26,11 +26,11 @@ use denote.Triple.Entry.{on_entry, alive, Args}
 use denote.Triple.Spec.{Meets, triple_of}
 use denote.Triple.Table.{entered}
 use denote.Triple.Walked.{says, stay_none_ref, Stays, walk_of, Walks, ends_at, walked, Goes-none_ref, walk_Meets}
-use Rattle.lg_io.specs.contracts.fault_count.FaultCount.with_one_more.Key.{name as key}
-use Rattle.lg_io.specs.contracts.fault_count.FaultCount.with_one_more as f
-use Rattle.lg_io.proofs.fault_count.FaultCount.with_one_more.Statement as stated
-use Rattle.lg_io.proofs.fault_count.FaultCount.with_one_more.Code as code
-use Rattle.lg_io.specs.contracts.fault_count.FaultCount as count
+use Rattle.lg_base.specs.contracts.tally.Tally.with_one_more.Key.{name as key}
+use Rattle.lg_base.specs.contracts.tally.Tally.with_one_more as f
+use Rattle.lg_base.proofs.tally.Tally.with_one_more.Statement as stated
+use Rattle.lg_base.proofs.tally.Tally.with_one_more.Code as code
+use Rattle.lg_base.specs.contracts.tally.Tally as count
 
 abbrev stayed : Stays (f.ended).signature.params (f.ended).kept
 stayed = (stay_none_ref (0 ∷ []) tt (plain (λ _. count.the_row)) yes, tt)
