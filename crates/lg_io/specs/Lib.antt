@@ -7,7 +7,10 @@ pub mod Writes
 pub mod Clock
 pub mod Door
 pub mod Net
+pub mod FaultPlan
+pub mod MemorySink
 pub mod MemoryClock
+pub mod MemoryNumbers
 pub mod MemoryDoor
 pub mod MemoryNet
 pub mod Files

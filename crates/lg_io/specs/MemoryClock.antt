@@ -1,4 +1,7 @@
--- What a clock in memory tells, from what it keeps. This project's own.
+-- What a clock in memory tells, from what it keeps, and what it is to do. This project's own.
+use Rattle.std.specs.Prelude.{◌≡◌, ℕ, ◌-◌, ◌^◌, min, max, List, [], ◌∷◌, map, drop, Option, option_map}
+use Rattle.lg_base.specs.declared.moment.Moment.{Moment}
+use Rattle.lg_io.specs.declared.memory.clock.MemoryClock.{MemoryClock}
 use Rattle.lg_io.specs.declared.memory.clock.ClockEvent.{ClockEvent}
 use Rattle.lg_io.specs.declared.memory.clock.ClockEvent.TheVariants.{Reading, Pause}
 use Rattle.lg_io.specs.Clock.{ClockCall, reading, pause}
@@ -7,3 +10,29 @@ use Rattle.lg_io.specs.Clock.{ClockCall, reading, pause}
 abbrev pub clock_call : ClockEvent → ClockCall
 clock_call (Reading moment) = reading moment.0
 clock_call (Pause ms) = pause ms
+
+-- the calls that a clock told
+abbrev pub clock_calls : MemoryClock → Option (List ClockCall)
+clock_calls clock = option_map (map clock_call) clock.calls
+
+-- the last moment that it gave, or 0
+abbrev pub clock_latest : MemoryClock → ℕ
+clock_latest clock = clock.latest.0
+
+-- moments, in milliseconds
+abbrev pub milliseconds : List Moment → List ℕ
+milliseconds moments = map (λ m. m.0) moments
+
+-- the moments that it has ahead
+abbrev pub moments_ahead : MemoryClock → List ℕ
+moments_ahead clock = milliseconds clock.moments.items
+
+-- the next moment of a list, not before the latest and below 2^62; behind the list the latest stays
+abbrev pub next_moment : List ℕ → ℕ → ℕ
+next_moment [] latest = latest
+next_moment (ms ∷ later) latest = max (min ms (2 ^ 62 - 1)) latest
+
+-- one reading: it gives the next moment of those that were ahead, and the others stay ahead
+pub record GivesNext (old new : MemoryClock) (moment : ℕ) : Type 0 where
+  pub is : moment ≡ next_moment (moments_ahead old) (clock_latest old)
+  pub goes_on : moments_ahead new ≡ drop 1 (moments_ahead old)

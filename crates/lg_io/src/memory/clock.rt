@@ -1,13 +1,14 @@
-ghost use Rattle.std.specs.Prelude.{◌≡◌, ℕ, ◌^◌, ◌<◌, map, option_map, Some, [], IfOk};
-ghost use Rattle.lg_io.specs.MemoryClock.{clock_call};
+ghost use Rattle.std.specs.Prelude.{◌≡◌, ◌^◌, ◌<◌, ◌≤◌, option_map, Some, ◌∷◌, [], IfOk};
+ghost use Rattle.lg_io.specs.Clock.{reading, pause};
 ghost use Rattle.lg_io.specs.Rest.{nothing};
+ghost use Rattle.lg_io.specs.Tells.{TellsOn};
 
 use super::CallList;
 use crate::Clock;
 use crate::clock::moment_from;
 use lg_base::{Moment, NoMemory};
 use std::alloc::Global;
-use std::vec::IntoIter;
+use std::collections::VecDeque;
 
 /// A call of a clock.
 #[derive(Clone, Copy, Debug, PartialEq, Eq)]
@@ -22,20 +23,23 @@ pub enum ClockEvent {
 /// 2^62, is brought within; behind the list the last moment stays.
 #[derive(Drop)]
 pub struct MemoryClock {
-    moments: IntoIter<Moment>,
+    moments: VecDeque<Moment>,
     latest: Moment,
     calls: CallList<ClockEvent>,
     ghost below: { latest.0 < 2 ^ 62 },
 }
 
 impl MemoryClock {
+    ghost use Rattle.lg_io.specs.MemoryClock.{clock_calls, clock_latest, moments_ahead, milliseconds};
+
     /// A clock with room for so many readings and pauses; past it the clock tells nothing of them.
     pub fn new(alloc: Global, moments: Vec<Moment>, room: usize) -> Result<MemoryClock, NoMemory>
-        ensures calls { IfOk result (λ c. ⟦<MemoryClock as Clock>⟧.calls c ≡ Some []) }
-        ensures latest { IfOk result (λ c. ⟦<MemoryClock as Clock>⟧.latest c ≡ 0) }
+        ensures calls { IfOk result (λ c. clock_calls c ≡ Some []) }
+        ensures latest { IfOk result (λ c. clock_latest c ≡ 0) }
+        ensures ahead { IfOk result (λ c. moments_ahead c ≡ milliseconds moments.items) }
     {
         Ok(MemoryClock {
-            moments: moments.into_iter(),
+            moments: VecDeque::from_vec(moments),
             latest: Moment(0),
             calls: CallList::with_room(alloc, room)?,
         })
@@ -43,7 +47,9 @@ impl MemoryClock {
 
     /// Begins anew, as if it had not been called; its moments go on.
     pub fn restart(&mut self)
-        ensures { ⟦<MemoryClock as Clock>⟧.calls self.new ≡ Some [] }
+        ensures calls { clock_calls self.new ≡ Some [] }
+        ensures latest { clock_latest self.new ≡ clock_latest self.old }
+        ensures ahead { moments_ahead self.new ≡ moments_ahead self.old }
     {
         self.calls.restart();
     }
@@ -57,21 +63,33 @@ impl MemoryClock {
 }
 
 impl Clock for MemoryClock {
-    ghost calls = { λ c. option_map (map clock_call) c.calls };
+    ghost use Rattle.lg_io.specs.MemoryClock.{clock_calls, clock_latest, moments_ahead, GivesNext};
 
-    ghost latest = { λ c. c.latest.0 };
+    ghost calls = { clock_calls };
+
+    ghost latest = { clock_latest };
 
     ghost rest = { λ _. nothing };
 
-    fn now(&mut self) -> Moment {
-        let given = self.moments.next().unwrap_or(self.latest);
+    fn now(&mut self) -> Moment
+        ensures bound { result.0 < 2 ^ 62 }
+        ensures later { clock_latest self.old ≤ result.0 }
+        ensures latest { clock_latest self.new ≡ result.0 }
+        ensures told { TellsOn (clock_calls self.old) (clock_calls self.new) (reading result.0 ∷ []) }
+        ensures follows { GivesNext self.old self.new result.0 }
+    {
+        let given = self.moments.pop_front().unwrap_or(self.latest);
         let moment = moment_from(given.0, self.latest);
         self.latest = moment;
         self.calls.add(ClockEvent::Reading(moment));
         moment
     }
 
-    fn pause(&mut self, ms: u32) {
+    fn pause(&mut self, ms: u32)
+        ensures latest { clock_latest self.new ≡ clock_latest self.old }
+        ensures told { TellsOn (clock_calls self.old) (clock_calls self.new) (pause ms ∷ []) }
+        ensures follows { moments_ahead self.new ≡ moments_ahead self.old }
+    {
         self.calls.add(ClockEvent::Pause(ms));
     }
 }
