@@ -8,6 +8,7 @@ pub mod Clock
 pub mod Door
 pub mod Net
 pub mod FaultPlan
+pub mod CallList
 pub mod MemorySink
 pub mod MemoryClock
 pub mod MemoryNumbers

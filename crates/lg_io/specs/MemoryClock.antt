@@ -4,6 +4,7 @@ use Rattle.lg_base.specs.declared.moment.Moment.{Moment}
 use Rattle.lg_io.specs.declared.memory.clock.MemoryClock.{MemoryClock}
 use Rattle.lg_io.specs.declared.memory.clock.ClockEvent.{ClockEvent}
 use Rattle.lg_io.specs.declared.memory.clock.ClockEvent.TheVariants.{Reading, Pause}
+use Rattle.lg_io.specs.CallList.{with_call}
 use Rattle.lg_io.specs.Clock.{ClockCall, reading, pause}
 
 -- a call of a clock
@@ -13,7 +14,7 @@ clock_call (Pause ms) = pause ms
 
 -- the calls that a clock told
 abbrev pub clock_calls : MemoryClock → Option (List ClockCall)
-clock_calls clock = option_map (map clock_call) clock.calls
+clock_calls clock = option_map (map clock_call) clock.calls.told
 
 -- the last moment that it gave, or 0
 abbrev pub clock_latest : MemoryClock → ℕ
@@ -32,7 +33,17 @@ abbrev pub next_moment : List ℕ → ℕ → ℕ
 next_moment [] latest = latest
 next_moment (ms ∷ later) latest = max (min ms (2 ^ 62 - 1)) latest
 
--- one reading: it gives the next moment of those that were ahead, and the others stay ahead
-pub record GivesNext (old new : MemoryClock) (moment : ℕ) : Type 0 where
-  pub is : moment ≡ next_moment (moments_ahead old) (clock_latest old)
+-- for how many more calls it has room to tell them
+abbrev pub clock_room : MemoryClock → ℕ
+clock_room clock = clock.calls.room
+
+-- one reading: it gives the next moment of those ahead, the others stay ahead, and it is told where there is room
+pub record GivesNext (old new : MemoryClock) (moment : Moment) : Type 0 where
+  pub is : moment.0 ≡ next_moment (moments_ahead old) (clock_latest old)
   pub goes_on : moments_ahead new ≡ drop 1 (moments_ahead old)
+  pub kept : new.calls ≡ with_call old.calls (Reading moment)
+
+-- one pause: the moments stay ahead, and it is told where there is room
+pub record PausesFor (old new : MemoryClock) (ms : ℕ) : Type 0 where
+  pub stays : moments_ahead new ≡ moments_ahead old
+  pub kept : new.calls ≡ with_call old.calls (Pause ms)

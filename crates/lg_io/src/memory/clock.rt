@@ -30,13 +30,14 @@ pub struct MemoryClock {
 }
 
 impl MemoryClock {
-    ghost use Rattle.lg_io.specs.MemoryClock.{clock_calls, clock_latest, moments_ahead, milliseconds};
+    ghost use Rattle.lg_io.specs.MemoryClock.{clock_calls, clock_latest, clock_room, moments_ahead, milliseconds};
 
     /// A clock with room for so many readings and pauses; past it the clock tells nothing of them.
     pub fn new(alloc: Global, moments: Vec<Moment>, room: usize) -> Result<MemoryClock, NoMemory>
         ensures calls { IfOk result (λ c. clock_calls c ≡ Some []) }
         ensures latest { IfOk result (λ c. clock_latest c ≡ 0) }
         ensures ahead { IfOk result (λ c. moments_ahead c ≡ milliseconds moments.items) }
+        ensures room { IfOk result (λ c. clock_room c ≡ room) }
     {
         Ok(MemoryClock {
             moments: VecDeque::from_vec(moments),
@@ -50,20 +51,21 @@ impl MemoryClock {
         ensures calls { clock_calls self.new ≡ Some [] }
         ensures latest { clock_latest self.new ≡ clock_latest self.old }
         ensures ahead { moments_ahead self.new ≡ moments_ahead self.old }
+        ensures room { clock_room self.old ≤ clock_room self.new }
     {
         self.calls.restart();
     }
 
     /// The readings and pauses, while they are told.
     pub fn calls(&self) -> Option<&[ClockEvent]>
-        ensures { option_map (λ s. s.now) result ≡ self.now.calls }
+        ensures { option_map (λ s. s.now) result ≡ self.now.calls.told }
     {
         self.calls.told()
     }
 }
 
 impl Clock for MemoryClock {
-    ghost use Rattle.lg_io.specs.MemoryClock.{clock_calls, clock_latest, moments_ahead, GivesNext};
+    ghost use Rattle.lg_io.specs.MemoryClock.{clock_calls, clock_latest, GivesNext, PausesFor};
 
     ghost calls = { clock_calls };
 
@@ -76,7 +78,7 @@ impl Clock for MemoryClock {
         ensures later { clock_latest self.old ≤ result.0 }
         ensures latest { clock_latest self.new ≡ result.0 }
         ensures told { TellsOn (clock_calls self.old) (clock_calls self.new) (reading result.0 ∷ []) }
-        ensures follows { GivesNext self.old self.new result.0 }
+        ensures follows { GivesNext self.old self.new result }
     {
         let given = self.moments.pop_front().unwrap_or(self.latest);
         let moment = moment_from(given.0, self.latest);
@@ -88,7 +90,7 @@ impl Clock for MemoryClock {
     fn pause(&mut self, ms: u32)
         ensures latest { clock_latest self.new ≡ clock_latest self.old }
         ensures told { TellsOn (clock_calls self.old) (clock_calls self.new) (pause ms ∷ []) }
-        ensures follows { moments_ahead self.new ≡ moments_ahead self.old }
+        ensures follows { PausesFor self.old self.new ms }
     {
         self.calls.add(ClockEvent::Pause(ms));
     }

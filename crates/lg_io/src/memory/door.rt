@@ -82,7 +82,7 @@ impl<P: FaultPlan> MemoryDoor<P> {
 
     /// The calls of its clock, while they are told.
     pub fn clock_calls(&self) -> Option<&[ClockEvent]>
-        ensures { option_map (λ s. s.now) result ≡ self.now.clock.calls }
+        ensures { option_map (λ s. s.now) result ≡ self.now.clock.calls.told }
     {
         self.clock.calls()
     }
@@ -158,9 +158,7 @@ impl<P: FaultPlan + Send> Door for MemoryDoor<P> {
     }
 
     fn done(&mut self, link: MemoryLink<P>) {
-        if self.ended.push(link).is_err() {
-            unreachable!()
-        }
+        self.ended.push_reserved(link);
     }
 
     ghost clock_rest = { λ d. refl };

@@ -33,7 +33,7 @@ impl<P: FaultPlan> MemoryNet<P> {
         plan: P,
         room: usize,
     ) -> Result<MemoryNet<P>, NoMemory>
-        ensures binds { IfOk result (λ n. n.binds ≡ Some []) }
+        ensures binds { IfOk result (λ n. n.binds.told ≡ Some []) }
         ensures faults { IfOk result (λ n. P.faults n.plan + n.lacks.met ≡ P.faults plan) }
     {
         Ok(MemoryNet {
@@ -46,7 +46,7 @@ impl<P: FaultPlan> MemoryNet<P> {
 
     /// The calls of `bind`, while they are told.
     pub fn binds(&self) -> Option<&[BindEvent]>
-        ensures { option_map (λ s. s.now) result ≡ self.now.binds }
+        ensures { option_map (λ s. s.now) result ≡ self.now.binds.told }
     {
         self.binds.told()
     }
@@ -57,7 +57,7 @@ impl<P: FaultPlan + Send> Net for MemoryNet<P> {
 
     type Door = MemoryDoor<P>;
 
-    ghost binds = { λ n. option_map (map bind_call) n.binds };
+    ghost binds = { λ n. option_map (map bind_call) n.binds.told };
 
     ghost faults = { λ n. P.faults n.plan + n.lacks.met };
 

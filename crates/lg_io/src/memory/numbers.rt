@@ -29,13 +29,13 @@ impl MemoryNumbers {
 }
 
 impl Numbers for MemoryNumbers {
-    ghost use Rattle.lg_io.specs.MemoryNumbers.{drawn_numbers, numbers_ahead, DrawsNext};
+    ghost use Rattle.lg_io.specs.MemoryNumbers.{drawn_numbers, DrawsNext};
 
     ghost draws = { drawn_numbers };
 
     fn draw(&mut self) -> u64
         ensures told { TellsOn (drawn_numbers self.old) (drawn_numbers self.new) (result ∷ []) }
-        ensures follows { DrawsNext (numbers_ahead self.old) (numbers_ahead self.new) result }
+        ensures follows { DrawsNext self.old self.new result }
     {
         if self.drawn < self.numbers.len() {
             let number = self.numbers[self.drawn];

@@ -8,7 +8,7 @@ use Rattle.lg_io.proofs.memory.net.restart_all.Given as goal
 -- a door that nobody used
 abbrev pub IsNew : (g : goal.Over) → MemoryDoor g.row.P.Denot → Type 0
 IsNew g door =
-    IsUnused (door_told g.P.FaultPlan.faults door) (option_map (map clock_call) door.clock.calls) (g.P.FaultPlan.faults door.plan)
+    IsUnused (door_told g.P.FaultPlan.faults door) (option_map (map clock_call) door.clock.calls.told) (g.P.FaultPlan.faults door.plan)
 
 -- the doors before the index are unused
 abbrev pub invariant-loop-door : goal.invariant-loop-door
