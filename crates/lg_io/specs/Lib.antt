@@ -5,7 +5,9 @@ pub mod Source
 pub mod Sink
 pub mod Writes
 pub mod Clock
+pub mod Link
 pub mod Door
+pub mod DoorSeen
 pub mod Net
 pub mod FaultPlan
 pub mod CallList
