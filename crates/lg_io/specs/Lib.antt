@@ -11,6 +11,7 @@ pub mod DoorSeen
 pub mod Net
 pub mod FaultPlan
 pub mod CallList
+pub mod MemorySource
 pub mod MemorySink
 pub mod MemoryClock
 pub mod MemoryNumbers
