@@ -5,3 +5,4 @@ pub mod NoFields
 pub mod Grown
 pub mod Called
 pub mod CallerLemmas
+pub mod Restarts

@@ -46,7 +46,7 @@ pub struct MemoryDoor<P> {
 
 impl<P: FaultPlan> MemoryDoor<P> {
     ghost use Rattle.lg_io.specs.MemoryClock.{clock_calls, clock_latest, moments_ahead};
-    ghost use Rattle.lg_io.specs.MemoryDoor.{door_told, door_script, door_clock};
+    ghost use Rattle.lg_io.specs.MemoryDoor.{door_told, door_closed, door_script, door_clock};
 
     /// A door with these visits and this clock. The plan names the calls of `accept` that fail.
     pub fn new(alloc: Global, visits: Vec<Visit<P>>, clock: MemoryClock, plan: P) -> MemoryDoor<P>
@@ -75,6 +75,7 @@ impl<P: FaultPlan> MemoryDoor<P> {
         ensures moments { moments_ahead (door_clock self.new) ≡ moments_ahead (door_clock self.old) }
         ensures due { door_script P.due self.new ≡ door_script P.script self.old }
         ensures script { door_script P.script self.new ≡ door_script P.script self.old }
+        ensures closed { door_closed self.new ≡ false }
     {
         self.last = None;
         self.handed = 0;
