@@ -6,3 +6,4 @@ pub mod Grown
 pub mod Called
 pub mod CallerLemmas
 pub mod Restarts
+pub mod Appearing

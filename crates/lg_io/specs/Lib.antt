@@ -20,3 +20,5 @@ pub mod MemoryNet
 pub mod Files
 pub mod MemoryFiles
 pub mod FileEvent
+pub mod Appearances
+pub mod FileScript
