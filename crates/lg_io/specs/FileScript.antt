@@ -18,7 +18,7 @@ files_told files = Some (record { maps = held_maps files; calls = files.history.
 abbrev pub late_files : {P : Type 0} → MemoryFiles P → ℕ
 late_files files = files.late.met
 
--- how many calls failed, where their plan counts faults so; the others wanted memory, or a file that isn't there
+-- how many calls failed, where their plan counts faults so; some wanted memory, or a file that isn't there
 abbrev pub file_faults : {P : Type 0} → (P → ℕ) → MemoryFiles P → ℕ
 file_faults faults files = faults files.plan + late_files files + files.shelf.wants.met
 
@@ -36,10 +36,12 @@ files_fail fails files = fails files.plan
 
 -- the maps that are held once the files of the next call have appeared
 abbrev pub grown_maps : {P : Type 0} → MemoryFiles P → List FileMap
-grown_maps files = held_maps files ++ maps_with (present (held_maps files)) (due_before (calls_made files) (files_ahead files))
+grown_maps files =
+    held_maps files ++ maps_with (present (held_maps files)) (due_before (calls_made files) (files_ahead files))
 
 -- a call begins: whether it fails, and the files of its time have appeared, and no other, if each found memory
-pub record BeginsByScript {P : Type 0} (due : P → ℕ → Bool) (old new : MemoryFiles P) (fails : Bool) : Type 0 where
+pub record BeginsByScript {P : Type 0} (due : P → ℕ → Bool) (old new : MemoryFiles P)
+    (fails : Bool) : Type 0 where
   pub fails_then : IsTrue (files_fail due old 0) → IsTrue fails
   pub goes_on : files_fail due new ≡ behind (files_fail due old)
   pub counts : calls_made new ≡ min (calls_made old + 1) (2 ^ 64 - 1)
@@ -47,7 +49,8 @@ pub record BeginsByScript {P : Type 0} (due : P → ℕ → Bool) (old new : Mem
   pub ahead : late_files new ≡ late_files old → files_ahead new ≡ left_before (calls_made old) (files_ahead old)
 
 -- One call: it fails where it is to. The files of its time have appeared, and no other, if each found memory.
-pub record CallsByScript {P : Type 0} (due : P → ℕ → Bool) (old new : MemoryFiles P) (answer : FileAnswer) : Type 0 where
+pub record CallsByScript {P : Type 0} (due : P → ℕ → Bool) (old new : MemoryFiles P)
+    (answer : FileAnswer) : Type 0 where
   pub fails : IsTrue (files_fail due old 0) → answer ≡ failed
   pub goes_on : files_fail due new ≡ behind (files_fail due old)
   pub counts : calls_made new ≡ min (calls_made old + 1) (2 ^ 64 - 1)

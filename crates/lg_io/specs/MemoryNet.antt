@@ -41,6 +41,7 @@ pub record DoorAhead (P : Type 0) : Type 0 where
   pub script : DoorScript P
   pub moments : List ℕ
 
+-- where the door's plan makes these calls fail
 abbrev pub door_ahead : {P : Type 0} → (P → ℕ → Bool) → MemoryDoor P → DoorAhead P
 door_ahead fails door = record { script = door_script fails door; moments = moments_ahead (door_clock door) }
 
@@ -49,9 +50,11 @@ abbrev pub bind_fails : {P : Type 0} → (P → ℕ → Bool) → MemoryNet P �
 bind_fails due net doors = net_fails due net 0 || nat_lt (length (net_doors net)) doors
 
 -- one call: it fails exactly where it has to, and else hands out the next doors, begun anew, if it found memory
-pub record BindsByScript {P : Type 0} (due script : P → ℕ → Bool) (old new : MemoryNet P) (call : BindEvent) (answer : Result (Vec (MemoryDoor P) Global) BindFault) : Type 0 where
+pub record BindsByScript {P : Type 0} (due script : P → ℕ → Bool) (old new : MemoryNet P) (call : BindEvent)
+    (answer : Result (Vec (MemoryDoor P) Global) BindFault) : Type 0 where
   pub fails : (answer ≡ Err Failed) ↔ IsTrue (bind_fails due old call.doors)
-  pub gives : IfOk answer (λ doors. map (door_ahead due) doors.items ≡ map (door_ahead script) (take call.doors (net_doors old)))
+  pub gives : IfOk answer (λ doors.
+      map (door_ahead due) doors.items ≡ map (door_ahead script) (take call.doors (net_doors old)))
   pub left : net_doors new ≡ (if is_ok answer then drop call.doors (net_doors old) else net_doors old)
   pub told : IsOk answer → new.binds ≡ with_call old.binds call
   pub goes_on : net_fails due new ≡ behind (net_fails due old)

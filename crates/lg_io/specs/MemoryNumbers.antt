@@ -14,4 +14,5 @@ numbers_ahead n = drop n.drawn n.numbers.items
 pub record DrawsNext (old new : MemoryNumbers) (number : ℕ) : Type 0 where
   pub is : number ≡ slice_index (numbers_ahead old) 0
   pub goes_on : numbers_ahead new ≡ drop 1 (numbers_ahead old)
-  pub told : 0 < length (numbers_ahead old) → drawn_numbers new ≡ option_map (λ ns. ns ++ number ∷ []) (drawn_numbers old)
+  pub told : 0 < length (numbers_ahead old) →
+      drawn_numbers new ≡ option_map (λ ns. ns ++ number ∷ []) (drawn_numbers old)

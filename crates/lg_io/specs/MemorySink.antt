@@ -35,7 +35,8 @@ abbrev pub write_answer : SinkScript → ℕ → WriteStep
 write_answer script room = if script.fails 0 then Failed else Took (min (max script.most 1) room)
 
 -- one write: its answer is the script's, unless it was to succeed and found no memory
-pub record WritesByScript {P : Type 0} (due : P → ℕ → Bool) (old new : MemorySink P) (room : ℕ) (step : WriteStep) : Type 0 where
+pub record WritesByScript {P : Type 0} (due : P → ℕ → Bool) (old new : MemorySink P) (room : ℕ)
+    (step : WriteStep) : Type 0 where
   pub answer : wants_of new ≡ wants_of old → step ≡ write_answer (sink_script due old) room
   pub wants : IsTrue (due old.plan 0) → wants_of new ≡ wants_of old
   pub goes_on : sink_script due new ≡ sink_behind (sink_script due old)

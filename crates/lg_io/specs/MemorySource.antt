@@ -10,7 +10,16 @@ use Rattle.lg_io.specs.Source.{Received, given}
 
 -- what it gave
 abbrev pub source_received : {P : Type 0} → MemorySource P → Option Received
-source_received s = Some (record { bytes = take s.at s.input.items; ended = s.is_ended; quiets = s.quiets })
+source_received s =
+    Some (record { bytes = take s.at s.input.items; ended = s.is_ended; quiets = s.quiets })
+
+-- whether it answered its end
+abbrev pub source_over : {P : Type 0} → MemorySource P → Bool
+source_over s = s.is_ended
+
+-- how many of its reads failed, where its plan counts faults so
+abbrev pub source_faults : {P : Type 0} → (P → ℕ) → MemorySource P → ℕ
+source_faults faults s = faults s.plan
 
 -- the bytes that it gives, what it does at the reads that don't fail, and which reads are to fail
 pub record SourceScript : Type 0 where
@@ -24,7 +33,8 @@ source_script fails s = record { input = s.input.items; turns = s.turns.items; f
 
 -- what is left of it
 abbrev pub source_ahead : {P : Type 0} → (P → ℕ → Bool) → MemorySource P → SourceScript
-source_ahead fails s = record { input = drop s.at s.input.items; turns = drop s.next s.turns.items; fails = fails s.plan }
+source_ahead fails s =
+    record { input = drop s.at s.input.items; turns = drop s.next s.turns.items; fails = fails s.plan }
 
 -- a piece of what is left: at most so many bytes, but at least one, and no more than fit; or the end
 abbrev pub piece_answer : ℕ → List ℕ → ℕ → ReadStep

@@ -19,8 +19,8 @@ impl<T> Model for CallList<T> {
     ghost Value = { KeptCalls T };
 
     ghost view = { λ c. record {
-        told = if c.is_whole then Some c.calls.items else None;
-        room = vec_capacity c.calls - vec_len c.calls
+      told = if c.is_whole then Some c.calls.items else None;
+      room = vec_capacity c.calls - vec_len c.calls;
     } };
 }
 

@@ -1,4 +1,4 @@
-ghost use Rattle.std.specs.Prelude.{◌≡◌, ◌+◌, ◌^◌, ◌<◌, ◌≤◌, option_map, Some, ◌∷◌, [], length, vec_len, vec_capacity, IsTrue, IsFalse, ◌||◌, false, refl};
+ghost use Rattle.std.specs.Prelude.{◌≡◌, ◌+◌, ◌^◌, ◌<◌, ◌≤◌, option_map, Some, ◌∷◌, [], length, vec_len, vec_capacity, IsTrue, IsFalse, ◌||◌, false, map, IfSome, refl};
 ghost use Rattle.std.specs.VecDeque.{deque_len};
 ghost use Rattle.lg_io.specs.Cause.{HasCause};
 ghost use Rattle.lg_io.specs.Clock.{reading, pause};
@@ -46,15 +46,16 @@ pub struct MemoryDoor<P> {
 
 impl<P: FaultPlan> MemoryDoor<P> {
     ghost use Rattle.lg_io.specs.MemoryClock.{clock_calls, clock_latest, moments_ahead};
-    ghost use Rattle.lg_io.specs.MemoryDoor.{door_told, door_closed, door_script, door_clock};
+    ghost use Rattle.lg_io.specs.MemoryDoor.{door_told, door_closed, door_faults, door_script, door_clock, link_did};
 
     /// A door with these visits and this clock. The plan names the calls of `accept` that fail.
     pub fn new(alloc: Global, visits: Vec<Visit<P>>, clock: MemoryClock, plan: P) -> MemoryDoor<P>
         ensures door { door_told P.faults result ≡ Some unused_door }
-        ensures faults { P.faults result.plan ≡ P.faults plan }
+        ensures faults { door_faults P.faults result ≡ P.faults plan }
         ensures clock { door_clock result ≡ clock }
         ensures due { door_script P.due result ≡ record { visits = visits.items; fails = P.due plan } }
-        ensures script { door_script P.script result ≡ record { visits = visits.items; fails = P.script plan } }
+        ensures script { door_script P.script result
+            ≡ record { visits = visits.items; fails = P.script plan } }
     {
         MemoryDoor {
             visits: VecDeque::from_vec(visits),
@@ -69,7 +70,7 @@ impl<P: FaultPlan> MemoryDoor<P> {
     /// Begins anew with the visits that are left, as if it had not been called.
     pub fn restart(&mut self)
         ensures door { door_told P.faults self.new ≡ Some unused_door }
-        ensures faults { P.faults self.new.plan ≡ 0 }
+        ensures faults { door_faults P.faults self.new ≡ 0 }
         ensures calls { clock_calls (door_clock self.new) ≡ Some [] }
         ensures latest { clock_latest (door_clock self.new) ≡ clock_latest (door_clock self.old) }
         ensures moments { moments_ahead (door_clock self.new) ≡ moments_ahead (door_clock self.old) }
@@ -86,45 +87,44 @@ impl<P: FaultPlan> MemoryDoor<P> {
 
     /// How many of its calls of `accept` failed.
     pub fn fault_count(&self) -> u64
-        ensures { result ≡ P.faults self.now.plan }
+        ensures { result ≡ door_faults P.faults self.now }
     {
         self.plan.fault_count()
     }
 
     /// The calls of its clock, while they are told.
     pub fn clock_calls(&self) -> Option<&[ClockEvent]>
-        ensures { option_map (λ s. s.now) result ≡ self.now.clock.calls.told }
+        ensures { option_map (λ s. s.now) result ≡ (door_clock self.now).calls.told }
     {
         self.clock.calls()
     }
 
     /// The links that came back, in order.
     pub fn ended(&self) -> &[MemoryLink<P>]
-        ensures { result.now ≡ self.now.ended.items }
+        ensures { IfSome (door_told P.faults self.now)
+            (λ told. map (link_did P.faults) result.now ≡ told.ended) }
     {
         self.ended.as_slice()
     }
 }
 
 impl<P: FaultPlan> Clock for MemoryDoor<P> {
-    ghost use Rattle.lg_io.specs.Rest.{of_door};
     ghost use Rattle.lg_io.specs.MemoryClock.{clock_calls, clock_latest, GivesNext, PausesFor};
-    ghost use Rattle.lg_io.specs.MemoryDoor.{door_told, door_closed, door_script, door_clock};
+    ghost use Rattle.lg_io.specs.MemoryDoor.{door_rest, door_script, door_clock};
 
     ghost calls = { λ d. clock_calls (door_clock d) };
 
     ghost latest = { λ d. clock_latest (door_clock d) };
 
-    ghost rest = { λ d. of_door (door_told P.faults d) (P.faults d.plan) (door_closed d) };
+    ghost rest = { door_rest P.faults };
 
     fn now(&mut self) -> Moment
         ensures bound { result.0 < 2 ^ 62 }
         ensures later { clock_latest (door_clock self.old) ≤ result.0 }
         ensures latest { clock_latest (door_clock self.new) ≡ result.0 }
-        ensures told { TellsOn (clock_calls (door_clock self.old)) (clock_calls (door_clock self.new)) (reading result.0 ∷ []) }
-        ensures told_door { door_told P.faults self.new ≡ door_told P.faults self.old }
-        ensures faults { P.faults self.new.plan ≡ P.faults self.old.plan }
-        ensures closed { door_closed self.new ≡ door_closed self.old }
+        ensures told { TellsOn (clock_calls (door_clock self.old)) (clock_calls (door_clock self.new))
+            (reading result.0 ∷ []) }
+        ensures rest { door_rest P.faults self.new ≡ door_rest P.faults self.old }
         ensures follows { GivesNext (door_clock self.old) (door_clock self.new) result }
         ensures due { door_script P.due self.new ≡ door_script P.due self.old }
         ensures script { door_script P.script self.new ≡ door_script P.script self.old }
@@ -134,10 +134,9 @@ impl<P: FaultPlan> Clock for MemoryDoor<P> {
 
     fn pause(&mut self, ms: u32)
         ensures latest { clock_latest (door_clock self.new) ≡ clock_latest (door_clock self.old) }
-        ensures told { TellsOn (clock_calls (door_clock self.old)) (clock_calls (door_clock self.new)) (pause ms ∷ []) }
-        ensures told_door { door_told P.faults self.new ≡ door_told P.faults self.old }
-        ensures faults { P.faults self.new.plan ≡ P.faults self.old.plan }
-        ensures closed { door_closed self.new ≡ door_closed self.old }
+        ensures told { TellsOn (clock_calls (door_clock self.old)) (clock_calls (door_clock self.new))
+            (pause ms ∷ []) }
+        ensures rest { door_rest P.faults self.new ≡ door_rest P.faults self.old }
         ensures follows { PausesFor (door_clock self.old) (door_clock self.new) ms }
         ensures due { door_script P.due self.new ≡ door_script P.due self.old }
         ensures script { door_script P.script self.new ≡ door_script P.script self.old }
@@ -149,7 +148,7 @@ impl<P: FaultPlan> Clock for MemoryDoor<P> {
 impl<P: FaultPlan + Send> Door for MemoryDoor<P> {
     ghost use Rattle.lg_io.specs.declared.door.Accept.TheVariants.{Closed, Failed};
     ghost use Rattle.lg_io.specs.Door.{closed_by, accept_kind, accepted, is_closing, told_done, IfConn, IsFresh, HasLinkOut};
-    ghost use Rattle.lg_io.specs.MemoryDoor.{door_told, door_closed, door_script, door_clock, link_did, link_told, answer_kind, AcceptsByScript};
+    ghost use Rattle.lg_io.specs.MemoryDoor.{door_told, door_closed, door_faults, door_script, door_clock, link_did, link_told, answer_kind, AcceptsByScript};
     ghost use Rattle.std.proofs.Common.{refl, ap, arith};
     ghost use Rattle.std.proofs.lemmas.List.{length-map};
 
@@ -159,20 +158,23 @@ impl<P: FaultPlan + Send> Door for MemoryDoor<P> {
 
     ghost is_closed = { door_closed };
 
-    ghost faults = { λ d. P.faults d.plan };
+    ghost faults = { door_faults P.faults };
 
     fn accept(&mut self, alloc: Global) -> Accept<MemoryLink<P>>
-        ensures told { door_told P.faults self.new ≡ option_map (accepted (accept_kind result)) (door_told P.faults self.old) }
-        ensures fresh { IfConn result (λ link. IsFresh (door_told P.faults self.old) (link_told P.faults link)) }
+        ensures told { door_told P.faults self.new
+            ≡ option_map (accepted (accept_kind result)) (door_told P.faults self.old) }
+        ensures fresh { IfConn result (λ link.
+            IsFresh (door_told P.faults self.old) (link_told P.faults link)) }
         ensures unended { IfConn result (λ link. link.source.is_ended ≡ false) }
         ensures closed { IsTrue (door_closed self.old) → result ≡ Closed }
         ensures closes { door_closed self.new ≡ (door_closed self.old || is_closing (accept_kind result)) }
-        ensures cause { HasCause (P.faults self.old.plan) (P.faults self.new.plan) (result ≡ Failed) }
+        ensures cause { HasCause (door_faults P.faults self.old) (door_faults P.faults self.new) (result ≡ Failed) }
         ensures clock { door_clock self.new ≡ door_clock self.old }
-        ensures stays { IsTrue (door_closed self.old) → door_script P.due self.new ≡ door_script P.due self.old }
+        ensures stays { IsTrue (door_closed self.old) →
+            door_script P.due self.new ≡ door_script P.due self.old }
         ensures follows { IsFalse (door_closed self.old) →
             AcceptsByScript P.due P.script (door_script P.due self.old) (door_script P.due self.new) result }
-        ensures script { P.script self.new.plan ≡ P.script self.old.plan }
+        ensures script { (door_script P.script self.new).fails ≡ (door_script P.script self.old).fails }
     {
         if let Some(Answer::Closed) = self.last {
             return Accept::Closed;
@@ -206,9 +208,10 @@ impl<P: FaultPlan + Send> Door for MemoryDoor<P> {
 
     fn done(&mut self, link: MemoryLink<P>)
         requires { HasLinkOut (door_told P.faults self.old) }
-        ensures told { door_told P.faults self.new ≡ told_done (link_told P.faults link) (door_told P.faults self.old) }
+        ensures told { door_told P.faults self.new
+            ≡ told_done (link_told P.faults link) (door_told P.faults self.old) }
         ensures closed { door_closed self.new ≡ door_closed self.old }
-        ensures faults { P.faults self.new.plan ≡ P.faults self.old.plan }
+        ensures faults { door_faults P.faults self.new ≡ door_faults P.faults self.old }
         ensures clock { door_clock self.new ≡ door_clock self.old }
         ensures due { door_script P.due self.new ≡ door_script P.due self.old }
         ensures script { door_script P.script self.new ≡ door_script P.script self.old }

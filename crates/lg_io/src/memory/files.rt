@@ -110,7 +110,8 @@ impl<P> MemoryFiles<P> {
 
     fn place(&mut self, file: Appearance) -> Result<(), NoMemory>
         ensures grown { HasGrown (held_maps self.old) (held_maps self.new) }
-        ensures maps { OnOk result (held_maps self.new ≡ held_maps self.old ++ maps_with (present (held_maps self.old)) (file ∷ [])) }
+        ensures maps { OnOk result (held_maps self.new ≡ held_maps self.old
+            ++ maps_with (present (held_maps self.old)) (file ∷ [])) }
         ensures calls { self.new.history.calls ≡ self.old.history.calls }
         ensures count { self.new.calls ≡ self.old.calls }
         ensures plan { self.new.plan ≡ self.old.plan }
@@ -136,9 +137,11 @@ impl<P> MemoryFiles<P> {
 
 /// The next file, where it is to appear before the call of this number.
 fn next_due(coming: &mut VecDeque<Appearance>, call: u64) -> Option<Appearance>
-    ensures next { MatchOption result (coming.new.items ≡ coming.old.items) (λ file. coming.old.items ≡ file ∷ coming.new.items) }
+    ensures next { MatchOption result (coming.new.items ≡ coming.old.items)
+        (λ file. coming.old.items ≡ file ∷ coming.new.items) }
     ensures due { IfSome result (λ file. nat_le file.call call ≡ true) }
-    ensures none { MatchOption result (IsNoneDue call coming.new.items) (λ _. deque_len coming.new < deque_len coming.old) }
+    ensures none { MatchOption result (IsNoneDue call coming.new.items)
+        (λ _. deque_len coming.new < deque_len coming.old) }
 {
     let next = coming.front()?;
     if next.call > call {
@@ -167,8 +170,10 @@ impl<P: FaultPlan> Files for MemoryFiles<P> {
     ghost faults = { file_faults P.faults };
 
     fn read(&mut self, alloc: Global, path: &Text) -> FileRead
-        ensures told { TellsCall (files_told self.old) (read path.now) (read_answer result) (files_told self.new) }
-        ensures cause { HasCause (file_faults P.faults self.old) (file_faults P.faults self.new) (result ≡ FileRead.Failed) }
+        ensures told { TellsCall (files_told self.old) (read path.now) (read_answer result)
+            (files_told self.new) }
+        ensures cause { HasCause (file_faults P.faults self.old) (file_faults P.faults self.new)
+            (result ≡ FileRead.Failed) }
         ensures follows { CallsByScript P.due self.old self.new (read_answer result) }
     {
         let fails = self.begin();
@@ -180,7 +185,8 @@ impl<P: FaultPlan> Files for MemoryFiles<P> {
     }
 
     fn create(&mut self, path: &Text) -> Result<(), Failed>
-        ensures told { TellsCall (files_told self.old) (create path.now) (done_answer result) (files_told self.new) }
+        ensures told { TellsCall (files_told self.old) (create path.now) (done_answer result)
+            (files_told self.new) }
         ensures cause { HasCause (file_faults P.faults self.old) (file_faults P.faults self.new) (IsErr result) }
         ensures follows { CallsByScript P.due self.old self.new (done_answer result) }
     {
@@ -193,7 +199,8 @@ impl<P: FaultPlan> Files for MemoryFiles<P> {
     }
 
     fn append(&mut self, path: &Text, piece: &[u8]) -> Result<(), Failed>
-        ensures told { TellsCall (files_told self.old) (append path.now piece.now) (done_answer result) (files_told self.new) }
+        ensures told { TellsCall (files_told self.old) (append path.now piece.now) (done_answer result)
+            (files_told self.new) }
         ensures cause { HasCause (file_faults P.faults self.old) (file_faults P.faults self.new) (IsErr result) }
         ensures follows { CallsByScript P.due self.old self.new (done_answer result) }
     {
@@ -206,7 +213,8 @@ impl<P: FaultPlan> Files for MemoryFiles<P> {
     }
 
     fn close(&mut self, path: &Text) -> Result<(), Failed>
-        ensures told { TellsCall (files_told self.old) (close path.now) (done_answer result) (files_told self.new) }
+        ensures told { TellsCall (files_told self.old) (close path.now) (done_answer result)
+            (files_told self.new) }
         ensures cause { HasCause (file_faults P.faults self.old) (file_faults P.faults self.new) (IsErr result) }
         ensures follows { CallsByScript P.due self.old self.new (done_answer result) }
     {
@@ -219,7 +227,8 @@ impl<P: FaultPlan> Files for MemoryFiles<P> {
     }
 
     fn rename(&mut self, from: &Text, to: &Text) -> Result<(), Failed>
-        ensures told { TellsCall (files_told self.old) (rename from.now to.now) (done_answer result) (files_told self.new) }
+        ensures told { TellsCall (files_told self.old) (rename from.now to.now) (done_answer result)
+            (files_told self.new) }
         ensures cause { HasCause (file_faults P.faults self.old) (file_faults P.faults self.new) (IsErr result) }
         ensures follows { CallsByScript P.due self.old self.new (done_answer result) }
     {
@@ -232,7 +241,8 @@ impl<P: FaultPlan> Files for MemoryFiles<P> {
     }
 
     fn remove(&mut self, path: &Text) -> Result<(), Failed>
-        ensures told { TellsCall (files_told self.old) (remove path.now) (done_answer result) (files_told self.new) }
+        ensures told { TellsCall (files_told self.old) (remove path.now) (done_answer result)
+            (files_told self.new) }
         ensures cause { HasCause (file_faults P.faults self.old) (file_faults P.faults self.new) (IsErr result) }
         ensures follows { CallsByScript P.due self.old self.new (done_answer result) }
     {
@@ -245,7 +255,8 @@ impl<P: FaultPlan> Files for MemoryFiles<P> {
     }
 
     fn exists(&mut self, path: &Text) -> Result<bool, Failed>
-        ensures told { TellsCall (files_told self.old) (exists path.now) (exists_answer result) (files_told self.new) }
+        ensures told { TellsCall (files_told self.old) (exists path.now) (exists_answer result)
+            (files_told self.new) }
         ensures cause { HasCause (file_faults P.faults self.old) (file_faults P.faults self.new) (IsErr result) }
         ensures follows { CallsByScript P.due self.old self.new (exists_answer result) }
     {
@@ -258,7 +269,8 @@ impl<P: FaultPlan> Files for MemoryFiles<P> {
     }
 
     fn make_folder(&mut self, path: &Text) -> Result<(), Failed>
-        ensures told { TellsCall (files_told self.old) (make_folder path.now) (done_answer result) (files_told self.new) }
+        ensures told { TellsCall (files_told self.old) (make_folder path.now) (done_answer result)
+            (files_told self.new) }
         ensures cause { HasCause (file_faults P.faults self.old) (file_faults P.faults self.new) (IsErr result) }
         ensures follows { CallsByScript P.due self.old self.new (done_answer result) }
     {

@@ -2,9 +2,8 @@ ghost use Rattle.std.specs.Prelude.{◌≡◌, All, option_map, map, Some, None,
 ghost use Rattle.lg_io.specs.declared.net.BindFault.TheVariants.{Failed};
 ghost use Rattle.lg_io.specs.CallList.{with_call};
 ghost use Rattle.lg_io.specs.Cause.{HasCause};
-ghost use Rattle.lg_io.specs.MemoryDoor.{door_told, door_closed};
+ghost use Rattle.lg_io.specs.MemoryDoor.{IsUnusedDoor};
 ghost use Rattle.lg_io.specs.MemoryNet.{net_binds, net_room, net_faults, net_doors, net_fails, door_ahead, BindsByScript};
-ghost use Rattle.lg_io.specs.Net.{IsUnused};
 ghost use Rattle.lg_io.specs.Tells.{TellsOn};
 
 use super::{CallList, FaultPlan, MemoryDoor};
@@ -61,7 +60,8 @@ impl<P: FaultPlan> MemoryNet<P> {
 
     // Tells a call, while there is room; where there is no memory for its address it tells nothing any more.
     fn tell(&mut self, alloc: Global, address: &Text, port: u16, doors: u16) -> Result<(), NoMemory>
-        ensures told { OnOk result (self.new.binds ≡ with_call self.old.binds (record { address = address.now; port = port; doors = doors })) }
+        ensures told { OnOk result (self.new.binds
+            ≡ with_call self.old.binds (record { address = address.now; port = port; doors = doors })) }
         ensures untold { OnErr result (self.new.binds.told ≡ None) }
         ensures doors { self.new.doors ≡ self.old.doors }
         ensures plan { self.new.plan ≡ self.old.plan }
@@ -95,11 +95,13 @@ impl<P: FaultPlan + Send> Net for MemoryNet<P> {
         n: u16,
     ) -> Result<Vec<MemoryDoor<P>>, BindFault>
         ensures count { IfOk result (λ doors. length doors.items ≡ n) }
-        ensures unused { IfOk result (λ doors. All (λ d. IsUnused (door_told P.faults d) (⟦<MemoryDoor<P> as Clock>⟧.calls d)
-            (P.faults d.plan) (door_closed d)) doors.items) }
-        ensures told { TellsOn (net_binds self.old) (net_binds self.new) (record { address = address.now; port = port; doors = n } ∷ []) }
-        ensures cause { HasCause (net_faults P.faults self.old) (net_faults P.faults self.new) (IsErrOf result Failed) }
-        ensures follows { BindsByScript P.due P.script self.old self.new (record { address = address.now; port = port; doors = n }) result }
+        ensures unused { IfOk result (λ doors. All (IsUnusedDoor P.faults) doors.items) }
+        ensures told { TellsOn (net_binds self.old) (net_binds self.new)
+            (record { address = address.now; port = port; doors = n } ∷ []) }
+        ensures cause { HasCause (net_faults P.faults self.old) (net_faults P.faults self.new)
+            (IsErrOf result Failed) }
+        ensures follows { BindsByScript P.due P.script self.old self.new
+            (record { address = address.now; port = port; doors = n }) result }
     {
         let told = self.tell(alloc, address, port, n);
         if self.plan.is_due() {
@@ -124,7 +126,7 @@ impl<P: FaultPlan + Send> Net for MemoryNet<P> {
 
 /// Begins each door anew.
 fn restart_all<P: FaultPlan>(doors: &mut [MemoryDoor<P>])
-    ensures unused { All (λ d. IsUnused (door_told P.faults d) (⟦<MemoryDoor<P> as Clock>⟧.calls d) (P.faults d.plan) (door_closed d)) doors.new }
+    ensures unused { All (IsUnusedDoor P.faults) doors.new }
     ensures ahead { map (door_ahead P.due) doors.new ≡ map (door_ahead P.script) doors.old }
     ensures count { length doors.new ≡ length doors.old }
 {

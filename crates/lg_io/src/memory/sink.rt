@@ -79,7 +79,8 @@ impl<P: FaultPlan> Sink for MemorySink<P> {
     fn write(&mut self, piece: &[u8]) -> WriteStep
         ensures count { FitsPiece result (length piece.now) }
         ensures told { Takes (sink_taken self.old) (sink_taken self.new) (taken_of result piece.now) }
-        ensures cause { HasCause (sink_faults P.faults self.old) (sink_faults P.faults self.new) (result ≡ Failed) }
+        ensures cause { HasCause (sink_faults P.faults self.old) (sink_faults P.faults self.new)
+            (result ≡ Failed) }
         ensures follows { WritesByScript P.due self.old self.new (length piece.now) result }
         ensures script { sink_script P.script self.new ≡ sink_script P.script self.old }
     {

@@ -33,14 +33,16 @@ pub struct MemorySource<P> {
 }
 
 impl<P: FaultPlan> MemorySource<P> {
-    ghost use Rattle.lg_io.specs.MemorySource.{source_received, source_script, source_ahead};
+    ghost use Rattle.lg_io.specs.MemorySource.{source_received, source_over, source_faults, source_script, source_ahead};
 
     /// A source of this input.
     pub fn new(input: Vec<u8>, turns: Vec<Turn>, plan: P) -> MemorySource<P>
         ensures received { source_received result ≡ Some nothing_received }
-        ensures ahead { source_ahead P.due result ≡ record { input = input.items; turns = turns.items; fails = P.due plan } }
-        ensures script { source_script P.script result ≡ record { input = input.items; turns = turns.items; fails = P.script plan } }
-        ensures faults { ⟦<MemorySource<P> as Source>⟧.faults result ≡ P.faults plan }
+        ensures ahead { source_ahead P.due result
+            ≡ record { input = input.items; turns = turns.items; fails = P.due plan } }
+        ensures script { source_script P.script result
+            ≡ record { input = input.items; turns = turns.items; fails = P.script plan } }
+        ensures faults { source_faults P.faults result ≡ P.faults plan }
     {
         MemorySource {
             input,
@@ -62,7 +64,7 @@ impl<P: FaultPlan> MemorySource<P> {
 
     /// Whether it answered its end.
     pub fn is_ended(&self) -> bool
-        ensures { IfSome (source_received self.now) (λ r. r.ended ≡ result) }
+        ensures { source_over self.now ≡ result }
     {
         self.is_ended
     }
@@ -76,7 +78,7 @@ impl<P: FaultPlan> MemorySource<P> {
 
     /// How many of its reads failed.
     pub fn fault_count(&self) -> u64
-        ensures { result ≡ ⟦<MemorySource<P> as Source>⟧.faults self.now }
+        ensures { result ≡ source_faults P.faults self.now }
     {
         self.plan.fault_count()
     }
@@ -86,7 +88,7 @@ impl<P: FaultPlan> MemorySource<P> {
         ensures received { source_received self.new ≡ Some nothing_received }
         ensures ahead { source_ahead P.due self.new ≡ source_script P.script self.old }
         ensures script { source_script P.script self.new ≡ source_script P.script self.old }
-        ensures faults { ⟦<MemorySource<P> as Source>⟧.faults self.new ≡ 0 }
+        ensures faults { source_faults P.faults self.new ≡ 0 }
     {
         self.at = 0;
         self.next = 0;
@@ -103,8 +105,10 @@ impl<P> MemorySource<P> {
     fn give(&mut self, most: usize, buf: &mut [u8]) -> ReadStep
         requires { IsFalse self.old.is_ended }
         ensures answer { result ≡ piece_answer most (drop self.old.at self.old.input.items) (length buf.new) }
-        ensures told { source_received self.new ≡ option_map (received_after result buf.new) (source_received self.old) }
-        ensures bytes { drop self.old.at self.old.input.items ≡ given result buf.new ++ drop self.new.at self.old.input.items }
+        ensures told { source_received self.new
+            ≡ option_map (received_after result buf.new) (source_received self.old) }
+        ensures bytes { drop self.old.at self.old.input.items
+            ≡ given result buf.new ++ drop self.new.at self.old.input.items }
         ensures ends { self.new.is_ended ≡ is_end result }
         ensures input { self.new.input ≡ self.old.input }
         ensures turns { self.new.turns ≡ self.old.turns }
@@ -124,24 +128,27 @@ impl<P> MemorySource<P> {
 }
 
 impl<P: FaultPlan> Source for MemorySource<P> {
-    ghost use Rattle.lg_io.specs.MemorySource.{source_received, source_script, source_ahead, ReadsByScript};
+    ghost use Rattle.lg_io.specs.MemorySource.{source_received, source_over, source_faults, source_script, source_ahead, ReadsByScript};
 
     ghost received = { source_received };
 
-    ghost is_over = { λ s. s.is_ended };
+    ghost is_over = { source_over };
 
-    ghost faults = { λ s. P.faults s.plan };
+    ghost faults = { source_faults P.faults };
 
     ghost rest = { λ _. nothing };
 
     fn read(&mut self, buf: &mut [u8]) -> ReadStep
         ensures count { FitsBuffer result (length buf.old) }
-        ensures told { source_received self.new ≡ option_map (received_after result buf.new) (source_received self.old) }
-        ensures over { IsTrue self.old.is_ended → result ≡ End }
-        ensures ends { self.new.is_ended ≡ (self.old.is_ended || is_end result) }
-        ensures cause { HasCause (P.faults self.old.plan) (P.faults self.new.plan) (result ≡ Failed) }
-        ensures stays { IsTrue self.old.is_ended → source_ahead P.due self.new ≡ source_ahead P.due self.old }
-        ensures follows { IsFalse self.old.is_ended →
+        ensures told { source_received self.new
+            ≡ option_map (received_after result buf.new) (source_received self.old) }
+        ensures over { IsTrue (source_over self.old) → result ≡ End }
+        ensures ends { source_over self.new ≡ (source_over self.old || is_end result) }
+        ensures cause { HasCause (source_faults P.faults self.old) (source_faults P.faults self.new)
+            (result ≡ Failed) }
+        ensures stays { IsTrue (source_over self.old) →
+            source_ahead P.due self.new ≡ source_ahead P.due self.old }
+        ensures follows { IsFalse (source_over self.old) →
             ReadsByScript (source_ahead P.due self.old) (source_ahead P.due self.new) buf.new result }
         ensures script { source_script P.script self.new ≡ source_script P.script self.old }
     {

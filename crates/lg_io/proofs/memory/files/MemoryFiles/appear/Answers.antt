@@ -17,10 +17,10 @@ loop-file-preserved g c =
     record {
       grown = grown_more _ _ _ before.grown placed.grown;
       maps = rw placed.coming (appear_next maps (held_maps c.place.new.self) file (due_before call later) placed.maps)
-      ∙ ap (λ files. maps ++ maps_with (present maps) files)
-      (sym (due_before-cons call file later c.in-Some.ensures.due) ∙ ap (due_before call) (sym c.in-Some.ensures.next)) ∙ before.maps;
+          ∙ ap (λ files. maps ++ maps_with (present maps) files)
+          (sym (due_before-cons call file later c.in-Some.ensures.due) ∙ ap (due_before call) (sym c.in-Some.ensures.next)) ∙ before.maps;
       ahead = rw placed.coming (sym (left_before-cons call file later c.in-Some.ensures.due))
-      ∙ ap (left_before call) (sym c.in-Some.ensures.next) ∙ before.ahead;
+          ∙ ap (left_before call) (sym c.in-Some.ensures.next) ∙ before.ahead;
       calls = placed.calls ∙ before.calls;
       count = placed.count ∙ before.count;
       plan = placed.plan ∙ before.plan;

@@ -11,7 +11,7 @@ invariant-loop-file g l =
     record {
       grown : HasGrown (held_maps l.fn.self) (held_maps l.self);
       maps : held_maps l.self ++ maps_with (present (held_maps l.self)) (due_before l.call (files_ahead l.self))
-      ≡ held_maps l.fn.self ++ maps_with (present (held_maps l.fn.self)) (due_before l.call (files_ahead l.fn.self));
+          ≡ held_maps l.fn.self ++ maps_with (present (held_maps l.fn.self)) (due_before l.call (files_ahead l.fn.self));
       ahead : left_before l.call (files_ahead l.self) ≡ left_before l.call (files_ahead l.fn.self);
       calls : l.self.history.calls ≡ l.fn.self.history.calls;
       count : l.self.calls ≡ l.fn.self.calls;
