@@ -4,7 +4,7 @@ use Rattle.lg_base.specs.declared.moment.Moment.{Moment}
 use Rattle.lg_io.specs.declared.memory.clock.MemoryClock.{MemoryClock}
 use Rattle.lg_io.specs.declared.memory.clock.ClockEvent.{ClockEvent}
 use Rattle.lg_io.specs.declared.memory.clock.ClockEvent.TheVariants.{Reading, Pause}
-use Rattle.lg_io.specs.CallList.{with_call}
+use Rattle.lg_io.specs.CallList.{KeptCalls, with_call}
 use Rattle.lg_io.specs.Clock.{ClockCall, reading, pause}
 
 -- a call of a clock
@@ -12,9 +12,13 @@ abbrev pub clock_call : ClockEvent → ClockCall
 clock_call (Reading moment) = reading moment.0
 clock_call (Pause ms) = pause ms
 
--- the calls that a clock told
+-- the calls that a clock keeps
+abbrev pub clock_log : MemoryClock → KeptCalls ClockEvent
+clock_log clock = clock.calls
+
+-- the calls that it told
 abbrev pub clock_calls : MemoryClock → Option (List ClockCall)
-clock_calls clock = option_map (map clock_call) clock.calls.told
+clock_calls clock = option_map (map clock_call) (clock_log clock).told
 
 -- the last moment that it gave, or 0
 abbrev pub clock_latest : MemoryClock → ℕ
@@ -33,17 +37,13 @@ abbrev pub next_moment : List ℕ → ℕ → ℕ
 next_moment [] latest = latest
 next_moment (ms ∷ later) latest = max (min ms (2 ^ 62 - 1)) latest
 
--- for how many more calls it has room to tell them
-abbrev pub clock_room : MemoryClock → ℕ
-clock_room clock = clock.calls.room
-
 -- one reading: it gives the next moment of those ahead, the others stay ahead, and it is told where there is room
 pub record GivesNext (old new : MemoryClock) (moment : Moment) : Type 0 where
   pub is : moment.0 ≡ next_moment (moments_ahead old) (clock_latest old)
   pub goes_on : moments_ahead new ≡ drop 1 (moments_ahead old)
-  pub kept : new.calls ≡ with_call old.calls (Reading moment)
+  pub kept : clock_log new ≡ with_call (clock_log old) (Reading moment)
 
 -- one pause: the moments stay ahead, and it is told where there is room
 pub record PausesFor (old new : MemoryClock) (ms : ℕ) : Type 0 where
   pub stays : moments_ahead new ≡ moments_ahead old
-  pub kept : new.calls ≡ with_call old.calls (Pause ms)
+  pub kept : clock_log new ≡ with_call (clock_log old) (Pause ms)

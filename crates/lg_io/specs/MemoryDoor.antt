@@ -16,9 +16,9 @@ use Rattle.lg_io.specs.Door.{AcceptKind, conn, quiet, closed, failed, no_memory,
 use Rattle.lg_io.specs.FaultPlan.{behind}
 use Rattle.lg_io.specs.MemoryClock.{clock_calls}
 use Rattle.lg_io.specs.MemorySink.{sink_taken, sink_faults, sink_script}
+use Rattle.lg_io.specs.MemorySource.{source_received, source_script, source_ahead}
 use Rattle.lg_io.specs.Net.{IsUnused}
 use Rattle.lg_io.specs.Rest.{Rest, of_door}
-use Rattle.lg_io.specs.MemorySource.{source_received, source_script, source_ahead}
 
 -- the kind of an answer that a door keeps
 abbrev pub answer_kind : Answer → AcceptKind

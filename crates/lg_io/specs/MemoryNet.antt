@@ -6,7 +6,7 @@ use Rattle.lg_io.specs.declared.memory.net.BindEvent.{BindEvent}
 use Rattle.lg_io.specs.declared.memory.net.MemoryNet.{MemoryNet}
 use Rattle.lg_io.specs.declared.net.BindFault.{BindFault}
 use Rattle.lg_io.specs.declared.net.BindFault.TheVariants.{Failed}
-use Rattle.lg_io.specs.CallList.{with_call}
+use Rattle.lg_io.specs.CallList.{KeptCalls, with_call}
 use Rattle.lg_io.specs.FaultPlan.{behind}
 use Rattle.lg_io.specs.MemoryClock.{moments_ahead}
 use Rattle.lg_io.specs.MemoryDoor.{DoorScript, door_script, door_clock}
@@ -16,13 +16,13 @@ use Rattle.lg_io.specs.Net.{BindCall}
 abbrev pub bind_call : BindEvent → BindCall
 bind_call event = record { address = event.address; port = event.port; doors = event.doors }
 
+-- the calls that a net keeps
+abbrev pub net_log : {P : Type 0} → MemoryNet P → KeptCalls BindEvent
+net_log net = net.binds
+
 -- the calls that it told
 abbrev pub net_binds : {P : Type 0} → MemoryNet P → Option (List BindCall)
-net_binds net = option_map (map bind_call) net.binds.told
-
--- for how many more calls it has room to tell them
-abbrev pub net_room : {P : Type 0} → MemoryNet P → ℕ
-net_room net = net.binds.room
+net_binds net = option_map (map bind_call) (net_log net).told
 
 -- how many calls failed, where its plan counts faults so; the others asked for more doors than are left
 abbrev pub net_faults : {P : Type 0} → (P → ℕ) → MemoryNet P → ℕ
@@ -56,5 +56,5 @@ pub record BindsByScript {P : Type 0} (due script : P → ℕ → Bool) (old new
   pub gives : IfOk answer (λ doors.
       map (door_ahead due) doors.items ≡ map (door_ahead script) (take call.doors (net_doors old)))
   pub left : net_doors new ≡ (if is_ok answer then drop call.doors (net_doors old) else net_doors old)
-  pub told : IsOk answer → new.binds ≡ with_call old.binds call
+  pub told : IsOk answer → net_log new ≡ with_call (net_log old) call
   pub goes_on : net_fails due new ≡ behind (net_fails due old)

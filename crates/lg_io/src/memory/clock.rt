@@ -30,14 +30,14 @@ pub struct MemoryClock {
 }
 
 impl MemoryClock {
-    ghost use Rattle.lg_io.specs.MemoryClock.{clock_calls, clock_latest, clock_room, moments_ahead, milliseconds};
+    ghost use Rattle.lg_io.specs.MemoryClock.{clock_log, clock_calls, clock_latest, moments_ahead, milliseconds};
 
     /// A clock with room for so many readings and pauses; past it the clock tells nothing of them.
     pub fn new(alloc: Global, moments: Vec<Moment>, room: usize) -> Result<MemoryClock, NoMemory>
         ensures calls { IfOk result (λ c. clock_calls c ≡ Some []) }
         ensures latest { IfOk result (λ c. clock_latest c ≡ 0) }
         ensures ahead { IfOk result (λ c. moments_ahead c ≡ milliseconds moments.items) }
-        ensures room { IfOk result (λ c. clock_room c ≡ room) }
+        ensures room { IfOk result (λ c. (clock_log c).room ≡ room) }
     {
         Ok(MemoryClock {
             moments: VecDeque::from_vec(moments),
@@ -51,14 +51,14 @@ impl MemoryClock {
         ensures calls { clock_calls self.new ≡ Some [] }
         ensures latest { clock_latest self.new ≡ clock_latest self.old }
         ensures ahead { moments_ahead self.new ≡ moments_ahead self.old }
-        ensures room { clock_room self.old ≤ clock_room self.new }
+        ensures room { (clock_log self.old).room ≤ (clock_log self.new).room }
     {
         self.calls.restart();
     }
 
     /// The readings and pauses, while they are told.
     pub fn calls(&self) -> Option<&[ClockEvent]>
-        ensures { option_map (λ s. s.now) result ≡ self.now.calls.told }
+        ensures { option_map (λ s. s.now) result ≡ (clock_log self.now).told }
     {
         self.calls.told()
     }

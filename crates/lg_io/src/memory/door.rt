@@ -45,7 +45,7 @@ pub struct MemoryDoor<P> {
 }
 
 impl<P: FaultPlan> MemoryDoor<P> {
-    ghost use Rattle.lg_io.specs.MemoryClock.{clock_calls, clock_latest, moments_ahead};
+    ghost use Rattle.lg_io.specs.MemoryClock.{clock_log, clock_calls, clock_latest, moments_ahead};
     ghost use Rattle.lg_io.specs.MemoryDoor.{door_told, door_closed, door_faults, door_script, door_clock, link_did};
 
     /// A door with these visits and this clock. The plan names the calls of `accept` that fail.
@@ -74,6 +74,7 @@ impl<P: FaultPlan> MemoryDoor<P> {
         ensures calls { clock_calls (door_clock self.new) ≡ Some [] }
         ensures latest { clock_latest (door_clock self.new) ≡ clock_latest (door_clock self.old) }
         ensures moments { moments_ahead (door_clock self.new) ≡ moments_ahead (door_clock self.old) }
+        ensures room { (clock_log (door_clock self.old)).room ≤ (clock_log (door_clock self.new)).room }
         ensures due { door_script P.due self.new ≡ door_script P.script self.old }
         ensures script { door_script P.script self.new ≡ door_script P.script self.old }
         ensures closed { door_closed self.new ≡ false }
@@ -94,7 +95,7 @@ impl<P: FaultPlan> MemoryDoor<P> {
 
     /// The calls of its clock, while they are told.
     pub fn clock_calls(&self) -> Option<&[ClockEvent]>
-        ensures { option_map (λ s. s.now) result ≡ (door_clock self.now).calls.told }
+        ensures { option_map (λ s. s.now) result ≡ (clock_log (door_clock self.now)).told }
     {
         self.clock.calls()
     }
@@ -148,7 +149,8 @@ impl<P: FaultPlan> Clock for MemoryDoor<P> {
 impl<P: FaultPlan + Send> Door for MemoryDoor<P> {
     ghost use Rattle.lg_io.specs.declared.door.Accept.TheVariants.{Closed, Failed};
     ghost use Rattle.lg_io.specs.Door.{closed_by, accept_kind, accepted, is_closing, told_done, IfConn, IsFresh, HasLinkOut};
-    ghost use Rattle.lg_io.specs.MemoryDoor.{door_told, door_closed, door_faults, door_script, door_clock, link_did, link_told, answer_kind, AcceptsByScript};
+    ghost use Rattle.lg_io.specs.MemoryDoor.{door_told, door_closed, door_faults, door_script, door_clock, link_did, link_told, AcceptsByScript};
+    ghost use Rattle.lg_io.specs.MemorySource.{source_over};
     ghost use Rattle.std.proofs.Common.{refl, ap, arith};
     ghost use Rattle.std.proofs.lemmas.List.{length-map};
 
@@ -165,7 +167,7 @@ impl<P: FaultPlan + Send> Door for MemoryDoor<P> {
             ≡ option_map (accepted (accept_kind result)) (door_told P.faults self.old) }
         ensures fresh { IfConn result (λ link.
             IsFresh (door_told P.faults self.old) (link_told P.faults link)) }
-        ensures unended { IfConn result (λ link. link.source.is_ended ≡ false) }
+        ensures unended { IfConn result (λ link. source_over link.source ≡ false) }
         ensures closed { IsTrue (door_closed self.old) → result ≡ Closed }
         ensures closes { door_closed self.new ≡ (door_closed self.old || is_closing (accept_kind result)) }
         ensures cause { HasCause (door_faults P.faults self.old) (door_faults P.faults self.new) (result ≡ Failed) }

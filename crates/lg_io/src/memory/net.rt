@@ -3,7 +3,7 @@ ghost use Rattle.lg_io.specs.declared.net.BindFault.TheVariants.{Failed};
 ghost use Rattle.lg_io.specs.CallList.{with_call};
 ghost use Rattle.lg_io.specs.Cause.{HasCause};
 ghost use Rattle.lg_io.specs.MemoryDoor.{IsUnusedDoor};
-ghost use Rattle.lg_io.specs.MemoryNet.{net_binds, net_room, net_faults, net_doors, net_fails, door_ahead, BindsByScript};
+ghost use Rattle.lg_io.specs.MemoryNet.{net_log, net_binds, net_faults, net_doors, net_fails, door_ahead, BindsByScript};
 ghost use Rattle.lg_io.specs.Tells.{TellsOn};
 
 use super::{CallList, FaultPlan, MemoryDoor};
@@ -38,7 +38,7 @@ impl<P: FaultPlan> MemoryNet<P> {
         room: usize,
     ) -> Result<MemoryNet<P>, NoMemory>
         ensures binds { IfOk result (λ net. net_binds net ≡ Some []) }
-        ensures room { IfOk result (λ net. net_room net ≡ room) }
+        ensures room { IfOk result (λ net. (net_log net).room ≡ room) }
         ensures faults { IfOk result (λ net. net_faults P.faults net ≡ P.faults plan) }
         ensures doors { IfOk result (λ net. net_doors net ≡ doors.items) }
         ensures fails { IfOk result (λ net. net_fails P.due net ≡ P.due plan) }
@@ -53,16 +53,16 @@ impl<P: FaultPlan> MemoryNet<P> {
 
     /// The calls of `bind`, while they are told.
     pub fn binds(&self) -> Option<&[BindEvent]>
-        ensures { option_map (λ s. s.now) result ≡ self.now.binds.told }
+        ensures { option_map (λ s. s.now) result ≡ (net_log self.now).told }
     {
         self.binds.told()
     }
 
     // Tells a call, while there is room; where there is no memory for its address it tells nothing any more.
     fn tell(&mut self, alloc: Global, address: &Text, port: u16, doors: u16) -> Result<(), NoMemory>
-        ensures told { OnOk result (self.new.binds
-            ≡ with_call self.old.binds (record { address = address.now; port = port; doors = doors })) }
-        ensures untold { OnErr result (self.new.binds.told ≡ None) }
+        ensures told { OnOk result (net_log self.new
+            ≡ with_call (net_log self.old) (record { address = address.now; port = port; doors = doors })) }
+        ensures untold { OnErr result (net_binds self.new ≡ None) }
         ensures doors { self.new.doors ≡ self.old.doors }
         ensures plan { self.new.plan ≡ self.old.plan }
         ensures lacks { self.new.lacks ≡ self.old.lacks }
