@@ -4,7 +4,7 @@ use Rattle.std.proofs.lemmas.List.{append-nil}
 use Rattle.lg_io.specs.Files.{FileMap, present, Appears, AppearInTurn, HasGrown}
 
 -- the last map of a list to which others are joined is the last of those behind its own last
-present-append : (ms ns : List FileMap) → present (ms ++ ns) ≡ present (present ms ∷ ns)
+pub present-append : (ms ns : List FileMap) → present (ms ++ ns) ≡ present (present ms ∷ ns)
 present-append [] [] = refl
 present-append [] (n ∷ ns) = refl
 present-append (m ∷ []) ns = refl

@@ -5,3 +5,5 @@ pub mod NoFields
 pub mod Grown
 pub mod Called
 pub mod CallerLemmas
+pub mod Restarts
+pub mod Appearing

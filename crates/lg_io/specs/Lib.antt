@@ -9,7 +9,12 @@ pub mod Link
 pub mod Door
 pub mod DoorSeen
 pub mod Net
+pub mod FaultPlan
+pub mod CallList
+pub mod MemorySource
+pub mod MemorySink
 pub mod MemoryClock
+pub mod MemoryNumbers
 pub mod MemoryDoor
 pub mod MemoryNet
 pub mod Files
@@ -17,3 +22,5 @@ pub mod MemoryFiles
 pub mod FileEvent
 pub mod Adapters
 pub mod StdioDoor
+pub mod Appearances
+pub mod FileScript

@@ -1,7 +1,10 @@
-ghost use Rattle.std.specs.Prelude.{◌≡◌, ℕ, ◌+◌, All, option_map, map, Some, [], IfOk, length};
-ghost use Rattle.lg_io.specs.Door.{closed_by};
-ghost use Rattle.lg_io.specs.MemoryDoor.{answer_kind, door_told};
-ghost use Rattle.lg_io.specs.Net.{IsUnused};
+ghost use Rattle.std.specs.Prelude.{◌≡◌, All, option_map, map, Some, None, [], ◌∷◌, IfOk, IsErrOf, OnOk, OnErr, length};
+ghost use Rattle.lg_io.specs.declared.net.BindFault.TheVariants.{Failed};
+ghost use Rattle.lg_io.specs.CallList.{with_call};
+ghost use Rattle.lg_io.specs.Cause.{HasCause};
+ghost use Rattle.lg_io.specs.MemoryDoor.{IsUnusedDoor};
+ghost use Rattle.lg_io.specs.MemoryNet.{net_log, net_binds, net_faults, net_doors, net_fails, door_ahead, BindsByScript};
+ghost use Rattle.lg_io.specs.Tells.{TellsOn};
 
 use super::{CallList, FaultPlan, MemoryDoor};
 use crate::{BindFault, Clock, FaultCount, Net};
@@ -34,8 +37,11 @@ impl<P: FaultPlan> MemoryNet<P> {
         plan: P,
         room: usize,
     ) -> Result<MemoryNet<P>, NoMemory>
-        ensures binds { IfOk result (λ n. n.binds ≡ Some []) }
-        ensures faults { IfOk result (λ n. P.faults n.plan + n.lacks.met ≡ P.faults plan) }
+        ensures binds { IfOk result (λ net. net_binds net ≡ Some []) }
+        ensures room { IfOk result (λ net. (net_log net).room ≡ room) }
+        ensures faults { IfOk result (λ net. net_faults P.faults net ≡ P.faults plan) }
+        ensures doors { IfOk result (λ net. net_doors net ≡ doors.items) }
+        ensures fails { IfOk result (λ net. net_fails P.due net ≡ P.due plan) }
     {
         Ok(MemoryNet {
             binds: CallList::with_room(alloc, room)?,
@@ -47,20 +53,39 @@ impl<P: FaultPlan> MemoryNet<P> {
 
     /// The calls of `bind`, while they are told.
     pub fn binds(&self) -> Option<&[BindEvent]>
-        ensures { option_map (λ s. s.now) result ≡ self.now.binds }
+        ensures { option_map (λ s. s.now) result ≡ (net_log self.now).told }
     {
         self.binds.told()
+    }
+
+    // Tells a call, while there is room; where there is no memory for its address it tells nothing any more.
+    fn tell(&mut self, alloc: Global, address: &Text, port: u16, doors: u16) -> Result<(), NoMemory>
+        ensures told { OnOk result (net_log self.new
+            ≡ with_call (net_log self.old) (record { address = address.now; port = port; doors = doors })) }
+        ensures untold { OnErr result (net_binds self.new ≡ None) }
+        ensures doors { self.new.doors ≡ self.old.doors }
+        ensures plan { self.new.plan ≡ self.old.plan }
+        ensures lacks { self.new.lacks ≡ self.old.lacks }
+    {
+        let Ok(address) = Text::copied(alloc, address.as_str()) else {
+            self.binds.lose();
+            return Err(NoMemory);
+        };
+        self.binds.add(BindEvent {
+            address,
+            port,
+            doors,
+        });
+        Ok(())
     }
 }
 
 impl<P: FaultPlan + Send> Net for MemoryNet<P> {
-    ghost use Rattle.lg_io.specs.MemoryNet.{bind_call};
-
     type Door = MemoryDoor<P>;
 
-    ghost binds = { λ n. option_map (map bind_call) n.binds };
+    ghost binds = { net_binds };
 
-    ghost faults = { λ n. P.faults n.plan + n.lacks.met };
+    ghost faults = { net_faults P.faults };
 
     fn bind(
         &mut self,
@@ -68,16 +93,17 @@ impl<P: FaultPlan + Send> Net for MemoryNet<P> {
         address: &Text,
         port: u16,
         n: u16,
-    ) -> Result<Vec<MemoryDoor<P>>, BindFault> {
-        let Ok(address) = Text::copied(alloc, address.as_str()) else {
-            self.binds.lose();
-            return Err(BindFault::NoMemory);
-        };
-        self.binds.add(BindEvent {
-            address,
-            port,
-            doors: n,
-        });
+    ) -> Result<Vec<MemoryDoor<P>>, BindFault>
+        ensures count { IfOk result (λ doors. length doors.items ≡ n) }
+        ensures unused { IfOk result (λ doors. All (IsUnusedDoor P.faults) doors.items) }
+        ensures told { TellsOn (net_binds self.old) (net_binds self.new)
+            (record { address = address.now; port = port; doors = n } ∷ []) }
+        ensures cause { HasCause (net_faults P.faults self.old) (net_faults P.faults self.new)
+            (IsErrOf result Failed) }
+        ensures follows { BindsByScript P.due P.script self.old self.new
+            (record { address = address.now; port = port; doors = n }) result }
+    {
+        let told = self.tell(alloc, address, port, n);
         if self.plan.is_due() {
             return Err(BindFault::Failed);
         }
@@ -85,6 +111,9 @@ impl<P: FaultPlan + Send> Net for MemoryNet<P> {
         if self.doors.len() < wanted {
             self.lacks = self.lacks.with_one_more();
             return Err(BindFault::Failed);
+        }
+        if told.is_err() {
+            return Err(BindFault::NoMemory);
         }
         let Ok(left) = self.doors.split_off(wanted) else {
             return Err(BindFault::NoMemory);
@@ -97,8 +126,8 @@ impl<P: FaultPlan + Send> Net for MemoryNet<P> {
 
 /// Begins each door anew.
 fn restart_all<P: FaultPlan>(doors: &mut [MemoryDoor<P>])
-    ensures unused { All (λ d.
-        IsUnused (door_told P.faults d) (⟦<MemoryDoor<P> as Clock>⟧.calls d) (P.faults d.plan) (closed_by (option_map answer_kind d.last))) doors.new }
+    ensures unused { All (IsUnusedDoor P.faults) doors.new }
+    ensures ahead { map (door_ahead P.due) doors.new ≡ map (door_ahead P.script) doors.old }
     ensures count { length doors.new ≡ length doors.old }
 {
     for door in doors.iter_mut() {

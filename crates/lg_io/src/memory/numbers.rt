@@ -1,4 +1,5 @@
-ghost use Rattle.std.specs.Prelude.{◌≡◌, ◌≤◌, List, [], Some, None, take, if◌then◌else◌, vec_len};
+ghost use Rattle.std.specs.Prelude.{◌≡◌, ◌≤◌, [], ◌∷◌, Some, vec_len};
+ghost use Rattle.lg_io.specs.Tells.{TellsOn};
 
 use crate::Numbers;
 
@@ -12,9 +13,12 @@ pub struct MemoryNumbers {
 }
 
 impl MemoryNumbers {
+    ghost use Rattle.lg_io.specs.MemoryNumbers.{drawn_numbers, numbers_ahead};
+
     /// The numbers of this list, in order.
     pub fn new(numbers: Vec<u64>) -> MemoryNumbers
-        ensures { ⟦<MemoryNumbers as Numbers>⟧.draws result ≡ Some [] }
+        ensures draws { drawn_numbers result ≡ Some [] }
+        ensures ahead { numbers_ahead result ≡ numbers.items }
     {
         MemoryNumbers {
             numbers,
@@ -25,9 +29,14 @@ impl MemoryNumbers {
 }
 
 impl Numbers for MemoryNumbers {
-    ghost draws = { λ n. if n.is_told then Some (take n.drawn n.numbers.items) else None };
+    ghost use Rattle.lg_io.specs.MemoryNumbers.{drawn_numbers, DrawsNext};
 
-    fn draw(&mut self) -> u64 {
+    ghost draws = { drawn_numbers };
+
+    fn draw(&mut self) -> u64
+        ensures told { TellsOn (drawn_numbers self.old) (drawn_numbers self.new) (result ∷ []) }
+        ensures follows { DrawsNext self.old self.new result }
+    {
         if self.drawn < self.numbers.len() {
             let number = self.numbers[self.drawn];
             self.drawn += 1;

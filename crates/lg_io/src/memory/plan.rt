@@ -1,14 +1,24 @@
-ghost use Rattle.std.specs.Prelude.{◌≡◌, ℕ, ◌+◌, ◌<◌, ◌≤◌, ◌↔◌, IsTrue, Contains};
+ghost use Rattle.std.specs.Prelude.{◌≡◌, ℕ, ◌+◌, ◌≤◌, Bool, false, IsTrue};
 ghost use Rattle.lg_io.specs.Cause.{HasCause};
+ghost use Rattle.lg_io.specs.FaultPlan.{behind, listed};
 
 /// Which calls of an object in memory are to fail. The object asks once in each call that may fail.
 pub trait FaultPlan: Drop {
     /// How many calls it made fail.
     ghost faults: { Self → ℕ };
 
+    /// Which calls are to fail, counted from 0 from its beginning on.
+    ghost script: { Self → ℕ → Bool };
+
+    /// The same, counted from the next call on.
+    ghost due: { Self → ℕ → Bool };
+
     /// Whether this call is to fail.
     fn is_due(&mut self) -> bool
-        ensures { HasCause (faults self.old) (faults self.new) (IsTrue result) };
+        ensures due { result ≡ due self.old 0 }
+        ensures next { due self.new ≡ behind (due self.old) }
+        ensures script { script self.new ≡ script self.old }
+        ensures cause { HasCause (faults self.old) (faults self.new) (IsTrue result) };
 
     /// How many calls it made fail.
     fn fault_count(&self) -> u64
@@ -16,7 +26,9 @@ pub trait FaultPlan: Drop {
 
     /// Begins the plan anew, as if no call had been made.
     fn restart(&mut self)
-        ensures { faults self.new ≡ 0 };
+        ensures due { due self.new ≡ script self.old }
+        ensures script { script self.new ≡ script self.old }
+        ensures faults { faults self.new ≡ 0 };
 }
 
 /// The plan of an object that never fails.
@@ -25,6 +37,10 @@ pub struct NoFaults;
 
 impl FaultPlan for NoFaults {
     ghost faults = { λ _. 0 };
+
+    ghost script = { λ _ _. false };
+
+    ghost due = { λ _ _. false };
 
     fn is_due(&mut self) -> bool {
         false
@@ -54,6 +70,8 @@ impl FaultList {
     pub fn new(numbers: Vec<u64>) -> FaultList
         ensures numbers { result.numbers ≡ numbers }
         ensures calls { result.calls ≡ 0 }
+        ensures due { ⟦<FaultList as FaultPlan>⟧.due result ≡ listed numbers.items }
+        ensures script { ⟦<FaultList as FaultPlan>⟧.script result ≡ listed numbers.items }
         ensures faults { ⟦<FaultList as FaultPlan>⟧.faults result ≡ 0 }
     {
         FaultList {
@@ -67,12 +85,11 @@ impl FaultList {
 impl FaultPlan for FaultList {
     ghost faults = { λ p. p.faults };
 
-    fn is_due(&mut self) -> bool
-        ensures cause { HasCause self.old.faults self.new.faults (IsTrue result) }
-        ensures due { self.old.calls < u64.MAX → (IsTrue result ↔ Contains self.old.numbers.items self.old.calls) }
-        ensures next { self.old.calls < u64.MAX → self.new.calls ≡ self.old.calls + 1 }
-        ensures numbers { self.new.numbers ≡ self.old.numbers }
-    {
+    ghost script = { λ p. listed p.numbers.items };
+
+    ghost due = { λ p call. listed p.numbers.items (p.calls + call) };
+
+    fn is_due(&mut self) -> bool {
         if self.calls == u64::MAX {
             return false;
         }
@@ -88,11 +105,7 @@ impl FaultPlan for FaultList {
         self.faults
     }
 
-    fn restart(&mut self)
-        ensures none { self.new.faults ≡ 0 }
-        ensures calls { self.new.calls ≡ 0 }
-        ensures numbers { self.new.numbers ≡ self.old.numbers }
-    {
+    fn restart(&mut self) {
         self.calls = 0;
         self.faults = 0;
     }

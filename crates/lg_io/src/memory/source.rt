@@ -1,6 +1,8 @@
-ghost use Rattle.std.specs.Prelude.{◌≡◌, ℕ, ◌≤◌, ◌<◌, List, length, take, min, max, Some, None, IfSome, IsTrue, false, vec_len, refl};
+ghost use Rattle.std.specs.Prelude.{◌≡◌, ◌≤◌, ◌++◌, length, take, drop, min, max, Some, IfSome, IsTrue, IsFalse, ◌||◌, option_map, vec_len, refl};
+ghost use Rattle.lg_io.specs.declared.source.ReadStep.TheVariants.{End, Failed};
+ghost use Rattle.lg_io.specs.Cause.{HasCause};
 ghost use Rattle.lg_io.specs.Rest.{nothing};
-ghost use Rattle.lg_io.specs.Source.{nothing_received};
+ghost use Rattle.lg_io.specs.Source.{nothing_received, received_after, given, is_end, FitsBuffer};
 
 use super::FaultPlan;
 use crate::{ReadStep, Source};
@@ -31,9 +33,16 @@ pub struct MemorySource<P> {
 }
 
 impl<P: FaultPlan> MemorySource<P> {
+    ghost use Rattle.lg_io.specs.MemorySource.{source_received, source_over, source_faults, source_script, source_ahead};
+
     /// A source of this input.
     pub fn new(input: Vec<u8>, turns: Vec<Turn>, plan: P) -> MemorySource<P>
-        ensures { ⟦<MemorySource<P> as Source>⟧.received result ≡ Some nothing_received }
+        ensures received { source_received result ≡ Some nothing_received }
+        ensures ahead { source_ahead P.due result
+            ≡ record { input = input.items; turns = turns.items; fails = P.due plan } }
+        ensures script { source_script P.script result
+            ≡ record { input = input.items; turns = turns.items; fails = P.script plan } }
+        ensures faults { source_faults P.faults result ≡ P.faults plan }
     {
         MemorySource {
             input,
@@ -48,36 +57,38 @@ impl<P: FaultPlan> MemorySource<P> {
 
     /// The bytes that it gave.
     pub fn given(&self) -> &[u8]
-        ensures { IfSome (⟦<MemorySource<P> as Source>⟧.received self.now) (λ r. r.bytes ≡ result.now) }
+        ensures { IfSome (source_received self.now) (λ r. r.bytes ≡ result.now) }
     {
         &self.input[..self.at]
     }
 
     /// Whether it answered its end.
     pub fn is_ended(&self) -> bool
-        ensures { IfSome (⟦<MemorySource<P> as Source>⟧.received self.now) (λ r. r.ended ≡ result) }
+        ensures { source_over self.now ≡ result }
     {
         self.is_ended
     }
 
     /// How often it was quiet since its last byte.
     pub fn quiets(&self) -> usize
-        ensures { IfSome (⟦<MemorySource<P> as Source>⟧.received self.now) (λ r. r.quiets ≡ result) }
+        ensures { IfSome (source_received self.now) (λ r. r.quiets ≡ result) }
     {
         self.quiets
     }
 
     /// How many of its reads failed.
     pub fn fault_count(&self) -> u64
-        ensures { result ≡ ⟦<MemorySource<P> as Source>⟧.faults self.now }
+        ensures { result ≡ source_faults P.faults self.now }
     {
         self.plan.fault_count()
     }
 
     /// Begins anew, as if nothing had been read.
     pub fn restart(&mut self)
-        ensures received { ⟦<MemorySource<P> as Source>⟧.received self.new ≡ Some nothing_received }
-        ensures faults { ⟦<MemorySource<P> as Source>⟧.faults self.new ≡ 0 }
+        ensures received { source_received self.new ≡ Some nothing_received }
+        ensures ahead { source_ahead P.due self.new ≡ source_script P.script self.old }
+        ensures script { source_script P.script self.new ≡ source_script P.script self.old }
+        ensures faults { source_faults P.faults self.new ≡ 0 }
     {
         self.at = 0;
         self.next = 0;
@@ -87,34 +98,23 @@ impl<P: FaultPlan> MemorySource<P> {
     }
 }
 
-impl<P: FaultPlan> Source for MemorySource<P> {
-    ghost received = { λ s. Some (record { bytes = take s.at s.input.items; ended = s.is_ended; quiets = s.quiets }) };
+impl<P> MemorySource<P> {
+    ghost use Rattle.lg_io.specs.MemorySource.{source_received, piece_answer};
 
-    ghost is_over = { λ s. s.is_ended };
-
-    ghost faults = { λ s. P.faults s.plan };
-
-    ghost rest = { λ _. nothing };
-
-    fn read(&mut self, buf: &mut [u8]) -> ReadStep {
-        if self.is_ended {
-            return ReadStep::End;
-        }
-        if self.plan.is_due() {
-            return ReadStep::Failed;
-        }
-        let mut most = usize::MAX;
-        if self.next < self.turns.len() {
-            let turn = self.turns[self.next];
-            self.next += 1;
-            match turn {
-                Turn::Piece(count) => most = count,
-                Turn::Quiet => {
-                    self.quiets += 1;
-                    return ReadStep::Quiet;
-                }
-            }
-        }
+    // A piece of what is left: at most so many bytes, but at least one, and no more than fit; or the end.
+    fn give(&mut self, most: usize, buf: &mut [u8]) -> ReadStep
+        requires { IsFalse self.old.is_ended }
+        ensures answer { result ≡ piece_answer most (drop self.old.at self.old.input.items) (length buf.new) }
+        ensures told { source_received self.new
+            ≡ option_map (received_after result buf.new) (source_received self.old) }
+        ensures bytes { drop self.old.at self.old.input.items
+            ≡ given result buf.new ++ drop self.new.at self.old.input.items }
+        ensures ends { self.new.is_ended ≡ is_end result }
+        ensures input { self.new.input ≡ self.old.input }
+        ensures turns { self.new.turns ≡ self.old.turns }
+        ensures next { self.new.next ≡ self.old.next }
+        ensures plan { self.new.plan ≡ self.old.plan }
+    {
         let left = &self.input[self.at..];
         if left.is_empty() {
             self.is_ended = true;
@@ -124,6 +124,52 @@ impl<P: FaultPlan> Source for MemorySource<P> {
         self.at += count;
         self.quiets = 0;
         ReadStep::Bytes(count)
+    }
+}
+
+impl<P: FaultPlan> Source for MemorySource<P> {
+    ghost use Rattle.lg_io.specs.MemorySource.{source_received, source_over, source_faults, source_script, source_ahead, ReadsByScript};
+
+    ghost received = { source_received };
+
+    ghost is_over = { source_over };
+
+    ghost faults = { source_faults P.faults };
+
+    ghost rest = { λ _. nothing };
+
+    fn read(&mut self, buf: &mut [u8]) -> ReadStep
+        ensures count { FitsBuffer result (length buf.old) }
+        ensures told { source_received self.new
+            ≡ option_map (received_after result buf.new) (source_received self.old) }
+        ensures over { IsTrue (source_over self.old) → result ≡ End }
+        ensures ends { source_over self.new ≡ (source_over self.old || is_end result) }
+        ensures cause { HasCause (source_faults P.faults self.old) (source_faults P.faults self.new)
+            (result ≡ Failed) }
+        ensures stays { IsTrue (source_over self.old) →
+            source_ahead P.due self.new ≡ source_ahead P.due self.old }
+        ensures follows { IsFalse (source_over self.old) →
+            ReadsByScript (source_ahead P.due self.old) (source_ahead P.due self.new) buf.new result }
+        ensures script { source_script P.script self.new ≡ source_script P.script self.old }
+    {
+        if self.is_ended {
+            return ReadStep::End;
+        }
+        if self.plan.is_due() {
+            return ReadStep::Failed;
+        }
+        if self.next == self.turns.len() {
+            return self.give(buf.len(), buf);
+        }
+        let turn = self.turns[self.next];
+        self.next += 1;
+        match turn {
+            Turn::Piece(most) => self.give(most, buf),
+            Turn::Quiet => {
+                self.quiets += 1;
+                ReadStep::Quiet
+            }
+        }
     }
 
     ghost tells_its_end = { λ s. refl };

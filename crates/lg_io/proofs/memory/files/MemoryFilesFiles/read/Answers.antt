@@ -1,7 +1,18 @@
-use Rattle.lg_io.proofs.Called.{called}
+use Rattle.std.proofs.Common.{refl, ap}
+use Rattle.lg_io.specs.Files.{read_answer}
+use Rattle.lg_io.proofs.Called.{by_script, called, cause_same}
 use Rattle.lg_io.proofs.memory.files.MemoryFilesFiles.read.Goals as goal
 
 pub returns-clause-told : goal.returns-clause-told
 returns-clause-told g c =
-    called c.args.self.now c.appear.new.self c.read-answer.new.self.log c.with-self.result _ _
-    c.appear.ensures.maps c.appear.ensures.calls c.read-answer.ensures.does c.with-self.ensures.0 c.with-self.ensures.1
+    called c.args.self.now c.begin-fails.new.self c.begin-fails.new.self.shelf.log c.with-self.result _ _
+    c.begin-fails.ensures.grown c.begin-fails.ensures.calls c.read-answer.ensures.does c.with-self.ensures.0 c.with-self.ensures.1
+
+pub returns-clause-cause : goal.returns-clause-cause
+returns-clause-cause g c = cause_same c.begin-fails.ensures.cause c.read-answer.ensures.fails
+
+pub returns-clause-follows : goal.returns-clause-follows
+returns-clause-follows g c =
+    by_script _ c.args.self.now c.begin-fails.new.self _ c.begin-fails.result _ c.begin-fails.new.self.shelf.log c.begin-fails.ensures.follows
+    (λ is. ap read_answer (c.read-answer.ensures.fails.1 is))
+    c.with-self.ensures.0 c.with-self.ensures.2 refl refl refl refl
