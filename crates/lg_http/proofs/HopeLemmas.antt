@@ -11,7 +11,7 @@ use Rattle.httparse.proofs.PieceLemmas.{Blank_deterministic, Method_deterministi
 use Rattle.httparse.proofs.GrammarLemmas.{request_head, request_from_pieces}
 use Rattle.httparse.proofs.OpenLemmas.{Completes_first, Completes_next, some_target, some_version, some_newline, some_section}
 use Rattle.lg_http.specs.Heads.{max_head, is_target_byte, IsInTarget}
-use Rattle.lg_http.specs.Messages.{HasHopelessFront, IsRefused}
+use Rattle.lg_http.specs.Messages.{HasHopelessFront, HasUnservedHead}
 
 -- of two cuts of one list one is no later than the other
 pub append_cut : (a b x t : List ℕ) → a ++ b ≡ x ++ t
@@ -122,7 +122,7 @@ no_more_fields bytes (front, rest, split, head, reads, more) =
 
 -- a whole head with more fields than are served
 pub long_refused : (bytes : List ℕ) (head : RequestHead) (rest : List ℕ) → length bytes ≤ max_head
-    → RequestOverflows 64 bytes → ReadsRequest bytes head rest → IsRefused bytes
+    → RequestOverflows 64 bytes → ReadsRequest bytes head rest → HasUnservedHead bytes
 long_refused bytes head rest short long reads = (
   head,
   rest,

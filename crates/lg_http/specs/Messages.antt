@@ -32,8 +32,8 @@ abbrev pub HasServedHead : List ℕ → Type 0
 HasServedHead bytes = (head : RequestHead) × (rest : List ℕ) × BeginsWith bytes head rest × IsAccepted head
 
 -- a head is at the front that is not served
-abbrev pub IsRefused : List ℕ → Type 0
-IsRefused bytes = (head : RequestHead) × (rest : List ℕ) × BeginsWith bytes head rest × (¬ IsAccepted head)
+abbrev pub HasUnservedHead : List ℕ → Type 0
+HasUnservedHead bytes = (head : RequestHead) × (rest : List ℕ) × BeginsWith bytes head rest × (¬ IsAccepted head)
 
 -- a front can no longer become a head
 abbrev pub HasHopelessFront : List ℕ → Type 0
@@ -47,7 +47,7 @@ pub record IsOverlong (bytes : List ℕ) : Type 0 where
 
 -- What stands at the front is no message, and becomes none whatever follows.
 abbrev pub IsBad : List ℕ → Type 0
-IsBad bytes = IsRefused bytes ⊎ HasHopelessFront bytes ⊎ IsOverlong bytes
+IsBad bytes = HasUnservedHead bytes ⊎ HasHopelessFront bytes ⊎ IsOverlong bytes
 
 -- a head that is served is whole, and its body isn't
 abbrev pub HasPartOfBody : List ℕ → Type 0
