@@ -37,4 +37,4 @@ module _ {V I B : Type 0} (items : V → List I) (number : I → ℕ) (base : V 
   pub fits_after_take : (origin : B) (list : List I) (accounts : List (Account I B)) → All (Fits items number base origin list) accounts → All (Fits items number base origin list) (map (after_take list) accounts)
   fits_after_take origin list accounts fits = All-map (Fits items number base origin list) (after_take list) accounts
       (All-weaker (Fits items number base origin list) (λ (a : Account I B). Fits items number base origin list (after_take list a))
-      (λ a f. record { base_is = f.base_is; begins = ([], sym (append-nil list)); own_is = f.own_is }) accounts fits)
+      (λ a f. record { base_is = f.base_is; begins = ([], sym (append-nil list)); own_is = f.own_is; own_seen = f.own_is }) accounts fits)

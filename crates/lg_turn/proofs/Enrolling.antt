@@ -15,14 +15,15 @@ use Rattle.lg_turn.specs.declared.view.Account.{Account}
 use Rattle.lg_turn.specs.declared.view.View.{View}
 use Rattle.lg_turn.specs.declared.view.Stage.{Stage}
 use Rattle.lg_turn.specs.declared.view.Stage.TheVariants.{Idle, Enrols, Undoes, Alone}
-use Rattle.lg_turn.specs.Views.{view_of, number_in, drawn_in, out_in, of_pass}
-use Rattle.lg_turn.specs.Rule.{passes_of, with_number, low_of, out_of, undone_of, values_of, tickets_of, with_ticket, ticket_count, same_ticket, value_count, place_count, out_count, undone_count, same_number, low_count, Fits, Knows, Roll, IsKept}
-use Rattle.lg_turn.specs.Steps.{noted, Enrolls, Counts}
+use Rattle.lg_turn.specs.Views.{view_of, number_in, drawn_in, out_in, of_pass, Precedes, MayFollow}
+use Rattle.lg_turn.specs.Rule.{passes_of, with_number, low_of, out_of, undone_of, values_of, tickets_of, with_ticket, ticket_count, same_ticket, value_count, place_count, out_count, undone_count, same_number, low_count, Fits, Knows, EachFound, Told, Roll, IsKept}
+use Rattle.lg_turn.specs.Steps.{moved, drawing, Enrolls, Counts}
 use Rattle.lg_turn.proofs.Sums.{sum_by_set, each_set, part-le-sum_by}
 use Rattle.lg_turn.proofs.Counts.{one_if_same, none_if_other, one_low, none_low}
 use Rattle.lg_turn.proofs.Parts.{sum_stays}
 use Rattle.lg_turn.proofs.Accounts.{numbers_map, lows_map}
 use Rattle.lg_turn.proofs.Entries.{of_pass-undrawn}
+use Rattle.lg_turn.proofs.Told.{told_on, precedes_by, each_found_set, each_word_moved, each_word_weaker}
 use Rattle.lg_turn.proofs.Rolls.{upper_half, lower_half, outs_few, undone_few, places-le-out}
 
 -- the third word alone changes
@@ -30,10 +31,10 @@ words_rolled : (ws : List ℕ) (a b word new : ℕ) → ws ≡ a ∷ b ∷ word 
 words_rolled ws a b word new e = ap (λ (l : List ℕ). set l 2 new) e
 
 module _ {V I B : Type 0} (items : V → List I) (number : I → ℕ) (base : V → B) where
-  fits_noted : (origin : B) (list : List I) (word : ℕ) (accounts : List (Account I B)) → All (Fits items number base origin list) accounts → All (Fits items number base origin list) (map (noted word) accounts)
-  fits_noted origin list word accounts fits = All-map (Fits items number base origin list) (noted word) accounts
-      (All-weaker (Fits items number base origin list) (λ (a : Account I B). Fits items number base origin list (noted word a))
-      (λ a f. record { base_is = f.base_is; begins = f.begins; own_is = f.own_is }) accounts fits)
+  fits_moved : (origin : B) (list : List I) (move : ℕ × ℕ) (accounts : List (Account I B)) → All (Fits items number base origin list) accounts → All (Fits items number base origin list) (map (moved move) accounts)
+  fits_moved origin list move accounts fits = All-map (Fits items number base origin list) (moved move) accounts
+      (All-weaker (Fits items number base origin list) (λ (a : Account I B). Fits items number base origin list (moved move a))
+      (λ a f. record { base_is = f.base_is; begins = f.begins; own_is = f.own_is; own_seen = f.own_seen }) accounts fits)
 
   first_number : (callers : ℕ) (n : ℕ) (accounts : List (Account I B)) → 0 < length accounts → n ≡ number_in accounts → 0 < sum_by (λ (a : Account I B). if a.number == n then 1 else 0) accounts
   first_number callers n [] h is = absurd (omega arith)
@@ -68,7 +69,7 @@ module _ {V I B : Type 0} (items : V → List I) (number : I → ℕ) (base : V 
             apart = λ t. let e = sum_stays s.views id v w at (with_ticket t) (same t) in let a = k.apart t in (omega (arith, e, a.0), (λ h. e ∙ a.1 h), λ h. e ∙ a.2 h);
           }
 
-    module _ (s : State (Option V) (View I B)) (k : Rule s) (id : ℕ) (accounts : List (Account I B)) (at : get_elem? s.views id ≡ some (view_of accounts Idle)) (some_pass : 0 < length accounts) (found : ℕ) (found_is : found ≡ k.word) where
+    module _ (s : State (Option V) (View I B)) (k : Rule s) (id : ℕ) (accounts : List (Account I B)) (at : get_elem? s.views id ≡ some (view_of accounts Idle)) (some_pass : 0 < length accounts) (found : ℕ) (found_is : found ≡ k.word) (move : ℕ × ℕ) where
       abbrev U : ℕ
       U = sum_by undone_of s.views
 
@@ -79,7 +80,7 @@ module _ {V I B : Type 0} (items : V → List I) (number : I → ℕ) (base : V 
       v = view_of accounts Idle
 
       abbrev at_stage : Stage → View I B
-      at_stage stage = view_of (map (noted found) accounts) stage
+      at_stage stage = view_of (map (moved move) accounts) stage
 
       drawn_is : drawn_in found ≡ k.made + U
       drawn_is = upper_half found (k.made + U) O (found_is ∙ k.roll.counted) (omega (arith, outs_few items number base callers origin s k))
@@ -87,8 +88,8 @@ module _ {V I B : Type 0} (items : V → List I) (number : I → ℕ) (base : V 
       out_is : out_in found ≡ O
       out_is = lower_half found (k.made + U) O (found_is ∙ k.roll.counted) (omega (arith, outs_few items number base callers origin s k))
 
-      wide : length (map (noted found) accounts) ≡ length accounts
-      wide = length-map accounts (noted found)
+      wide : length (map (moved move) accounts) ≡ length accounts
+      wide = length-map accounts (moved move)
 
       -- the sums after the step
       passes_moved : (stage : Stage) → sum_by (passes_of callers) (set s.views id (at_stage stage)) ≡ sum_by (passes_of callers) s.views + place_count callers stage
@@ -101,21 +102,50 @@ module _ {V I B : Type 0} (items : V → List I) (number : I → ℕ) (base : V 
       undone_moved stage = let m = sum_by_set undone_of s.views id v (at_stage stage) at in omega (arith, m)
 
       numbers_moved : (stage : Stage) (n : ℕ) → sum_by (with_number n) (set s.views id (at_stage stage)) ≡ sum_by (with_number n) s.views + same_number n stage
-      numbers_moved stage n = let m = sum_by_set (with_number n) s.views id v (at_stage stage) at in omega (arith, m, numbers_map (noted found) (λ a. refl) n accounts)
+      numbers_moved stage n = let m = sum_by_set (with_number n) s.views id v (at_stage stage) at in omega (arith, m, numbers_map (moved move) (λ a. refl) n accounts)
 
       low_moved : (stage : Stage) → sum_by (low_of callers) (set s.views id (at_stage stage)) ≡ sum_by (low_of callers) s.views + low_count callers stage
-      low_moved stage = let m = sum_by_set (low_of callers) s.views id v (at_stage stage) at in omega (arith, m, lows_map (noted found) (λ a. refl) callers accounts)
+      low_moved stage = let m = sum_by_set (low_of callers) s.views id v (at_stage stage) at in omega (arith, m, lows_map (moved move) (λ a. refl) callers accounts)
 
-      fits : All (Fits items number base origin k.list) (map (noted found) accounts)
-      fits = fits_noted origin k.list found accounts (k.each_pass id v at).fits
+      fits : All (Fits items number base origin k.list) (map (moved move) accounts)
+      fits = fits_moved origin k.list move accounts (k.each_pass id v at).fits
+
+      told_before : Told found s.views
+      told_before = subst (λ (n : ℕ). Told n s.views) (sym found_is) k.roll.told
+
+      follows : MayFollow accounts found
+      follows = (
+        (let fewer = k.roll.fewer in omega (arith, drawn_is, out_is, fewer)),
+        each_word_weaker (λ earlier. (out_in earlier ≤ drawn_in earlier) × Precedes earlier found) (λ earlier. Precedes earlier found) (λ earlier b. b.1) accounts (told_before.behind id v at),
+      )
+
+      -- what was found stays true where the move is from this word to a later one
+      told_after : (later : ℕ) → ((P : ℕ → Type 0) → P found → P later → P move.0 × P move.1) → out_in later ≤ drawn_in later → Precedes found later → (stage : Stage) → Told later (set s.views id (at_stage stage))
+      told_after later both fit next stage = told_on found later s.views (set s.views id (at_stage stage)) told_before follows.0 fit next
+          (λ P h p q. let m = both P p q in each_found_set P s.views id (at_stage stage) h (each_word_moved P move accounts m.0 m.1 (h id v at)))
+
+      told_drawn : ((P : ℕ → Type 0) → P found → P (found + 4294967297) → P move.0 × P move.1) → (stage : Stage) → Told (found + 4294967297) (set s.views id (at_stage stage))
+      told_drawn both stage =
+          let few = outs_few items number base callers origin s k in
+          let counted = k.roll.counted in
+          let up = upper_half (found + 4294967297) (k.made + U + 1) (O + 1) (omega (arith, found_is, counted)) (omega (arith, few)) in
+          let low = lower_half (found + 4294967297) (k.made + U + 1) (O + 1) (omega (arith, found_is, counted)) (omega (arith, few)) in
+          let fewer = k.roll.fewer in
+          told_after (found + 4294967297) both (omega (arith, up, low, fewer))
+          (precedes_by found (found + 4294967297) (k.made + U) O (k.made + U + 1) (O + 1) drawn_is out_is up low (λ h. omega arith) (omega (arith, fewer))) stage
+
+      told_found : ((P : ℕ → Type 0) → P found → P found → P move.0 × P move.1) → (stage : Stage) → Told found (set s.views id (at_stage stage))
+      told_found both stage = told_after found both follows.0 (precedes_by found found (drawn_in found) (out_in found) (drawn_in found) (out_in found) refl refl refl refl (λ h. omega arith) (omega arith)) stage
 
       -- past all numbers both halves are to be undone
-      roll_undoes : 4294967168 ≤ drawn_in found → Roll items number base callers k.list k.made (found + 4294967297) (set s.views id (at_stage Undoes))
-      roll_undoes h =
+      roll_undoes : ((P : ℕ → Type 0) → P found → P (found + 4294967297) → P move.0 × P move.1) → 4294967168 ≤ drawn_in found → Roll items number base callers k.list k.made (found + 4294967297) (set s.views id (at_stage Undoes))
+      roll_undoes both h =
           let r = k.roll in
           let small = r.small in
           let all_drawn : k.made ≡ 4294967168 = dite (dec_le U 0) (λ z. omega (arith, z, h, drawn_is, small)) (λ z. r.spent (omega (arith, z))) in record {
             counted = omega (arith, r.counted, found_is, undone_moved Undoes, out_moved Undoes);
+            fewer = (let fewer = r.fewer in omega (arith, fewer, undone_moved Undoes, out_moved Undoes));
+            told = told_drawn both Undoes;
             small = small;
             spent = λ _. all_drawn;
             passes = omega (arith, passes_moved Undoes, r.passes);
@@ -144,12 +174,14 @@ module _ {V I B : Type 0} (items : V → List I) (number : I → ℕ) (base : V 
       no_low : callers ≤ drawn_in found → low_count callers new_stage ≡ 0
       no_low h = ap (λ (b : Bool). cond b (cond (nat_lt (out_in found) callers) 1 0) 0) (le-ltb (drawn_in found) callers h)
 
-      roll_enrols : drawn_in found < 4294967168 → Roll items number base callers k.list (k.made + 1) (found + 4294967297) (set s.views id (at_stage new_stage))
-      roll_enrols h =
+      roll_enrols : ((P : ℕ → Type 0) → P found → P (found + 4294967297) → P move.0 × P move.1) → drawn_in found < 4294967168 → Roll items number base callers k.list (k.made + 1) (found + 4294967297) (set s.views id (at_stage new_stage))
+      roll_enrols both h =
           let r = k.roll in
           let z = none_undone h in
           let m = made_is h in record {
             counted = omega (arith, r.counted, found_is, undone_moved new_stage, out_moved new_stage);
+            fewer = (let fewer = r.fewer in omega (arith, fewer, undone_moved new_stage, out_moved new_stage));
+            told = told_drawn both new_stage;
             small = omega (arith, h, m);
             spent = λ l. absurd (omega (arith, l, z, undone_moved new_stage));
             passes = omega (arith, passes_moved new_stage, room);
@@ -178,38 +210,16 @@ module _ {V I B : Type 0} (items : V → List I) (number : I → ℕ) (base : V 
           let mine = first_number callers n accounts some_pass refl in
           dite (dec_lt n (drawn_in found)) (λ l. l) (λ l. let none_there = (k.roll.numbers n).1 (omega (arith, l, made_is h)) in absurd (omega (arith, part, mine, none_there)))
 
-      enrol_undoes : (slots : ℕ) → 4294967168 ≤ drawn_in found
-          → (w : View I B) × (a : Act (Option V)) × Valid s.homes [] a × Rule (stepped s 2 ((found + 4294967297) % 2 ^ 64) id [] w a) × Enrolls (step slots 2 4294967297 0 none) (v, []) found (w, carried_after [] a)
-      enrol_undoes slots h = (
-        at_stage Undoes,
-        keeps,
-        tt,
-        subst (λ (n : ℕ). Rule (stepped s 2 n id [] (at_stage Undoes) keeps)) (sym word_more)
-            (rolled s k id accounts (map (noted found) accounts) Idle Undoes at refl (λ t. refl) refl record { fits = fits; stands = omega (arith, wide, some_pass) } [] k.made (found + 4294967297) (roll_undoes h)),
-        ((λ _. refl), λ l. absurd (omega (arith, l, h))),
-      )
-
-      enrol_draws : (slots : ℕ) → drawn_in found < 4294967168
-          → (w : View I B) × (a : Act (Option V)) × Valid s.homes [] a × Rule (stepped s 2 ((found + 4294967297) % 2 ^ 64) id [] w a) × Enrolls (step slots 2 4294967297 0 none) (v, []) found (w, carried_after [] a)
-      enrol_draws slots h = (
-        at_stage new_stage,
-        keeps,
-        tt,
-        subst (λ (n : ℕ). Rule (stepped s 2 n id [] (at_stage new_stage) keeps)) (sym word_more)
-            (rolled s k id accounts (map (noted found) accounts) Idle new_stage at refl (λ t. refl) refl
-            record { fits = fits; stands = (omega (arith, wide, some_pass), ap (λ (n : ℕ). of_pass number n k.list) (made_is h) ∙ of_pass-undrawn number k.made k.list k.roll.entered) }
-            [] (k.made + 1) (found + 4294967297) (roll_enrols h)),
-        ((λ l. absurd (omega (arith, l, h))), λ _. (refl, below h)),
-      )
-
       -- a look at the roll that finds no other pass
-      roll_alone : out_in found ≡ 1 → Roll items number base callers k.list k.made found (set s.views id (at_stage Alone))
-      roll_alone h =
+      roll_alone : ((P : ℕ → Type 0) → P found → P found → P move.0 × P move.1) → out_in found ≡ 1 → Roll items number base callers k.list k.made found (set s.views id (at_stage Alone))
+      roll_alone both h =
           let r = k.roll in
           let seen = places-le-out items number base callers origin s k id accounts at some_pass in
           let part = part-le-sum_by (passes_of callers) s.views id v at in
           let most = r.passes in record {
             counted = omega (arith, r.counted, found_is, undone_moved Alone, out_moved Alone);
+            fewer = (let fewer = r.fewer in omega (arith, fewer, undone_moved Alone, out_moved Alone));
+            told = told_found both Alone;
             small = r.small;
             spent = λ l. r.spent (omega (arith, l, undone_moved Alone));
             passes = omega (arith, passes_moved Alone, seen, h, out_is, part, some_pass, most);
@@ -218,10 +228,12 @@ module _ {V I B : Type 0} (items : V → List I) (number : I → ℕ) (base : V 
             whole = λ l. r.whole (omega (arith, l, low_moved Alone));
           }
 
-      roll_others : Roll items number base callers k.list k.made found (set s.views id (at_stage Idle))
-      roll_others =
+      roll_others : ((P : ℕ → Type 0) → P found → P found → P move.0 × P move.1) → Roll items number base callers k.list k.made found (set s.views id (at_stage Idle))
+      roll_others both =
           let r = k.roll in record {
             counted = omega (arith, r.counted, found_is, undone_moved Idle, out_moved Idle);
+            fewer = (let fewer = r.fewer in omega (arith, fewer, undone_moved Idle, out_moved Idle));
+            told = told_found both Idle;
             small = r.small;
             spent = λ l. r.spent (omega (arith, l, undone_moved Idle));
             passes = omega (arith, passes_moved Idle, r.passes);
@@ -230,25 +242,61 @@ module _ {V I B : Type 0} (items : V → List I) (number : I → ℕ) (base : V 
             whole = λ l. r.whole (omega (arith, l, low_moved Idle));
           }
 
-      counts_alone : (slots : ℕ) → out_in found ≡ 1
-          → (w : View I B) × (a : Act (Option V)) × Valid s.homes [] a × Rule (stepped s 2 found id [] w a) × Counts (step slots 2 0 0 none) (v, []) found (w, carried_after [] a)
-      counts_alone slots h = (
-        at_stage Alone,
+    module _ (s : State (Option V) (View I B)) (k : Rule s) (id : ℕ) (accounts : List (Account I B)) (at : get_elem? s.views id ≡ some (view_of accounts Idle)) (some_pass : 0 < length accounts) (found : ℕ) (found_is : found ≡ k.word) (slots : ℕ) where
+      enrol_undoes : 4294967168 ≤ drawn_in found
+          → (w : View I B) × (a : Act (Option V)) × Valid s.homes [] a × Rule (stepped s 2 ((found + 4294967297) % 2 ^ 64) id [] w a) × Enrolls (step slots 2 4294967297 0 none) (view_of accounts Idle, []) found (w, carried_after [] a)
+      enrol_undoes h =
+          let w : View I B = view_of (map (moved (drawing found)) accounts) Undoes in (
+            w,
+            keeps,
+            tt,
+            subst (λ (n : ℕ). Rule (stepped s 2 n id [] w keeps)) (sym (word_more s k id accounts at some_pass found found_is (drawing found)))
+                (rolled s k id accounts (map (moved (drawing found)) accounts) Idle Undoes at refl (λ t. refl) refl
+                record { fits = fits s k id accounts at some_pass found found_is (drawing found); stands = omega (arith, wide s k id accounts at some_pass found found_is (drawing found), some_pass) }
+                [] k.made (found + 4294967297) (roll_undoes s k id accounts at some_pass found found_is (drawing found) (λ P p q. (p, q)) h)),
+            ((λ _. refl), (λ l. absurd (omega (arith, l, h))), follows s k id accounts at some_pass found found_is (drawing found)),
+          )
+
+      enrol_draws : drawn_in found < 4294967168
+          → (w : View I B) × (a : Act (Option V)) × Valid s.homes [] a × Rule (stepped s 2 ((found + 4294967297) % 2 ^ 64) id [] w a) × Enrolls (step slots 2 4294967297 0 none) (view_of accounts Idle, []) found (w, carried_after [] a)
+      enrol_draws h =
+          let stage : Stage = Enrols (drawn_in found) (out_in found) in
+          let w : View I B = view_of (map (moved (drawing found)) accounts) stage in
+          let none_made = ap (λ (n : ℕ). of_pass number n k.list) (made_is s k id accounts at some_pass found found_is (drawing found) h) ∙ of_pass-undrawn number k.made k.list k.roll.entered in (
+            w,
+            keeps,
+            tt,
+            subst (λ (n : ℕ). Rule (stepped s 2 n id [] w keeps)) (sym (word_more s k id accounts at some_pass found found_is (drawing found)))
+                (rolled s k id accounts (map (moved (drawing found)) accounts) Idle stage at refl (λ t. refl) refl
+                record { fits = fits s k id accounts at some_pass found found_is (drawing found); stands = (omega (arith, wide s k id accounts at some_pass found found_is (drawing found), some_pass), none_made) }
+                [] (k.made + 1) (found + 4294967297) (roll_enrols s k id accounts at some_pass found found_is (drawing found) (λ P p q. (p, q)) h)),
+            ((λ l. absurd (omega (arith, l, h))), (λ _. (refl, below s k id accounts at some_pass found found_is (drawing found) h)), follows s k id accounts at some_pass found found_is (drawing found)),
+          )
+
+      counts_alone : out_in found ≡ 1
+          → (w : View I B) × (a : Act (Option V)) × Valid s.homes [] a × Rule (stepped s 2 found id [] w a) × Counts (step slots 2 0 0 none) (view_of accounts Idle, []) found (w, carried_after [] a)
+      counts_alone h = (
+        view_of (map (moved (found, found)) accounts) Alone,
         keeps,
         tt,
-        rolled s k id accounts (map (noted found) accounts) Idle Alone at refl (λ t. refl) refl record { fits = fits; stands = omega (arith, wide, some_pass) } [] k.made found (roll_alone h),
-        ((λ _. refl), λ l. absurd (l h)),
+        rolled s k id accounts (map (moved (found, found)) accounts) Idle Alone at refl (λ t. refl) refl
+            record { fits = fits s k id accounts at some_pass found found_is (found, found); stands = omega (arith, wide s k id accounts at some_pass found found_is (found, found), some_pass) }
+            [] k.made found (roll_alone s k id accounts at some_pass found found_is (found, found) (λ P p q. (p, q)) h),
+        ((λ _. refl), (λ l. absurd (l h)), follows s k id accounts at some_pass found found_is (found, found)),
       )
 
-      counts_others : (slots : ℕ) → out_in found ≢ 1
-          → (w : View I B) × (a : Act (Option V)) × Valid s.homes [] a × Rule (stepped s 2 found id [] w a) × Counts (step slots 2 0 0 none) (v, []) found (w, carried_after [] a)
-      counts_others slots h = (
-        at_stage Idle,
-        keeps,
-        tt,
-        rolled s k id accounts (map (noted found) accounts) Idle Idle at refl (λ t. refl) refl record { fits = fits; stands = tt } [] k.made found roll_others,
-        ((λ l. absurd (h l)), λ _. (refl, (let part = part-le-sum_by out_of s.views id v at in omega (arith, part, out_is, some_pass, h)))),
-      )
+      counts_others : out_in found ≢ 1
+          → (w : View I B) × (a : Act (Option V)) × Valid s.homes [] a × Rule (stepped s 2 found id [] w a) × Counts (step slots 2 0 0 none) (view_of accounts Idle, []) found (w, carried_after [] a)
+      counts_others h =
+          let part = part-le-sum_by out_of s.views id (view_of accounts Idle) at in
+          let out_is' = out_is s k id accounts at some_pass found found_is (found, found) in (
+            view_of (map (moved (found, found)) accounts) Idle,
+            keeps,
+            tt,
+            rolled s k id accounts (map (moved (found, found)) accounts) Idle Idle at refl (λ t. refl) refl record { fits = fits s k id accounts at some_pass found found_is (found, found); stands = tt }
+                [] k.made found (roll_others s k id accounts at some_pass found found_is (found, found) (λ P p q. (p, q))),
+            ((λ l. absurd (h l)), (λ _. (refl, omega (arith, part, out_is', some_pass, h))), follows s k id accounts at some_pass found found_is (found, found)),
+          )
 
     pub enrols : (slots id : ℕ) (accounts : List (Account I B)) → 0 < length accounts → Allows Rule slots id (view_of accounts Idle, []) 2 (λ n. (n + 4294967297) % 2 ^ 64) (Enrolls (step slots 2 4294967297 0 none) (view_of accounts Idle, []))
     enrols slots id accounts some_pass s k sized at small =

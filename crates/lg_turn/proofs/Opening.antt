@@ -5,7 +5,7 @@ use mathlib.Core.Logic.{dite}
 use native.Mathlib.Decide.{ℕ_discrete}
 use lib.ListN.{get_elem?}
 use Rattle.std.specs.Prelude.{◌==◌, if◌then◌else◌}
-use Rattle.std.specs.List.{sum_by, range_with_len}
+use Rattle.std.specs.List.{sum_by, range_with_len, All}
 use Rattle.std.proofs.lemmas.List.FromFn.{length-map-range_with_len}
 use Rattle.std.proofs.lemmas.List.Sums.{sum_by-cons}
 use Rattle.std.proofs.lemmas.List.Elements.{All-nil, All-map}
@@ -16,6 +16,7 @@ use Rattle.lg_turn.specs.Views.{blank}
 use Rattle.lg_turn.specs.Rule.{Fits, Knows, IsKept}
 use Rattle.lg_turn.specs.Steps.{beginning}
 use Rattle.lg_turn.proofs.Counts.{one_if_same, none_if_other}
+use Rattle.lg_turn.proofs.Told.{told_at_first}
 
 module _ (I : Type 0) {B : Type 0} (over : B) where
   abbrev one : ℕ → Account I B → ℕ
@@ -35,7 +36,7 @@ module _ (I : Type 0) {B : Type 0} (over : B) where
 module _ {V I B : Type 0} (items : V → List I) (number : I → ℕ) (base : V → B) (callers passes : ℕ) (value : V) where
   begins_known : (i : ℕ) (v : View I B) → get_elem? (beginning passes (base value) ∷ []) i ≡ some v → Knows items number base (base value) [] 0 v
   begins_known zero v e = subst (Knows items number base (base value) [] 0) (some-injective (beginning passes (base value)) v e) record {
-    fits = All-map (Fits items number base (base value) []) (blank (base value)) (range_with_len 0 passes) (λ k d inside. record { base_is = refl; begins = ([], refl); own_is = refl });
+    fits = All-map (Fits items number base (base value) []) (blank (base value)) (range_with_len 0 passes) (λ k d inside. record { base_is = refl; begins = ([], refl); own_is = refl; own_seen = refl });
     stands = tt;
   }
   begins_known (suc i) v e = absurd (some-ne-none v (sym e))
@@ -53,6 +54,8 @@ module _ {V I B : Type 0} (items : V → List I) (number : I → ℕ) (base : V 
     few = few;
     roll = record {
       counted = omega (arith, wide);
+      fewer = omega (arith, wide);
+      told = told_at_first word (beginning passes (base value)) (λ P. All-map (λ (a : Account I B). All (λ (m : ℕ × ℕ). P m.0 × P m.1) a.moves) (blank (base value)) (range_with_len 0 passes) (λ k d inside. All-nil (λ (m : ℕ × ℕ). P m.0 × P m.1)));
       small = omega arith;
       spent = λ h. absurd (omega arith);
       passes = omega (arith, wide);

@@ -1,7 +1,7 @@
 -- A pass that is split off another keeps the rule.
 use Rattle.std.proofs.Common.{◌≡◌, ℕ, ◌+◌, ◌<◌, List, [], ◌∷◌, ◌++◌, set, arith, ap, sym, refl, subst, ⊎_elim, Option, Bool, cond}
 use Rattle.std.specs.Prelude.{◌==◌, nat_lt, if◌then◌else◌}
-use Rattle.std.specs.List.{sum_by}
+use Rattle.std.specs.List.{sum_by, All}
 use Rattle.std.proofs.lemmas.List.Sums.{sum_by-cons, sum_by_push}
 use Rattle.std.proofs.lemmas.List.Elements.{All-nil, All-cons, All-head}
 use Rattle.atomic_table.specs.Table.{State, Splits}
@@ -14,6 +14,8 @@ use Rattle.lg_turn.specs.Rule.{passes_of, with_number, out_of, undone_of, low_of
 use Rattle.lg_turn.specs.Steps.{kept, enrolled}
 use Rattle.lg_turn.proofs.Sums.{sum_by_set, each_set}
 use Rattle.lg_turn.proofs.Counts.{one_low}
+use Rattle.lg_turn.proofs.Entries.{of_pass-none_before}
+use Rattle.lg_turn.proofs.Told.{each_found_set, each_found_push, each_word_one}
 use Rattle.lg_turn.proofs.Dealing.{with_views}
 
 module _ {V I B : Type 0} (items : V → List I) (number : I → ℕ) (base : V → B) (callers : ℕ) (origin : B) where
@@ -24,7 +26,7 @@ module _ {V I B : Type 0} (items : V → List I) (number : I → ℕ) (base : V 
   parts id n out a rest room s k at =
       let v = view_of (a ∷ rest) (Enrols n out) in
       let l = view_of (a ∷ rest) Idle in
-      let new = account_of n a.base a.seen [] [] in
+      let new = account_of n a.base a.seen [] a.moves in
       let r = view_of (new ∷ []) Idle in
       let P : View I B → Type 0 = Knows items number base origin k.list k.serving in
       let F : Account I B → Type 0 = Fits items number base origin k.list in
@@ -35,7 +37,7 @@ module _ {V I B : Type 0} (items : V → List I) (number : I → ℕ) (base : V 
       with_views items number base callers origin s k (set s.views id l ++ r ∷ [])
       (λ i u e. ⊎_elim
       (λ there. each_set (λ j x. P x) s.views id l record { fits = known.fits; stands = tt } (λ j x _ f. k.each_pass j x f) i u there)
-      (λ is. subst P is record { fits = All-cons F new [] record { base_is = mine.base_is; begins = mine.begins; own_is = known.stands.1 } (All-nil F); stands = tt })
+      (λ is. subst P is record { fits = All-cons F new [] record { base_is = mine.base_is; begins = mine.begins; own_is = known.stands.1; own_seen = of_pass-none_before number n k.list a.seen mine.begins known.stands.1 } (All-nil F); stands = tt })
       (at_snoc (set s.views id l) r u i e))
       (omega (arith, same (passes_of callers) (omega (arith, place))))
       (λ m. let one : Account I B → ℕ = λ b. if b.number == m then 1 else 0 in omega (arith, same (with_number m) (omega (arith, sum_by-cons one new []))))
@@ -44,6 +46,8 @@ module _ {V I B : Type 0} (items : V → List I) (number : I → ℕ) (base : V 
       (let one : Account I B → ℕ = λ b. if nat_lt b.number callers then 1 else 0 in
       let low_same : (b c : Bool) → cond c 1 0 ≡ 1 → cond b 1 0 ≡ cond b (cond c 1 0) 0 = λ b c e. ap (λ (m : ℕ). cond b m 0) (sym e) in
       omega (arith, same (low_of callers) (omega (arith, sum_by-cons one new [], low_same (nat_lt n callers) (nat_lt out callers) place))))
+      (λ Q h. let M : Account I B → Type 0 = λ b. All (λ (m : ℕ × ℕ). Q m.0 × Q m.1) b.moves in
+      each_found_push Q (set s.views id l) r (each_found_set Q s.views id l h (h id v at)) (each_word_one Q new (All-head M a rest (h id v at))))
       (same values_of refl)
       (same tickets_of refl)
       (λ t. same (with_ticket t) refl)

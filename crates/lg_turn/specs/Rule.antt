@@ -9,7 +9,7 @@ use Rattle.lg_turn.specs.declared.view.Account.{Account}
 use Rattle.lg_turn.specs.declared.view.View.{View}
 use Rattle.lg_turn.specs.declared.view.Stage.{Stage}
 use Rattle.lg_turn.specs.declared.view.Stage.TheVariants.{Idle, Waits, Holds, Enrols, Undoes, Alone}
-use Rattle.lg_turn.specs.Views.{BeginsWith, of_pass, seen_in}
+use Rattle.lg_turn.specs.Views.{BeginsWith, of_pass, seen_in, drawn_in, out_in, Precedes, EachWord}
 
 -- 1 for a stage with a ticket out
 abbrev pub ticket_count : Stage → ℕ
@@ -112,12 +112,24 @@ module _ {I B : Type 0} where
   abbrev pub values_of : View I B → ℕ
   values_of v = value_count v.stage
 
+  -- what P says holds of each word that a pass of these seats found or left
+  abbrev pub EachFound : (ℕ → Type 0) → List (View I B) → Type 0
+  EachFound P views = (i : ℕ) (v : View I B) → get_elem? views i ≡ some v → EachWord P v.accounts
+
+  -- What passes found of the roll, and what they left, is true of it.
+  pub record Told (word : ℕ) (views : List (View I B)) : Type 0 where
+    -- the roll came behind all of it, and never more passes were out than numbers drawn
+    pub behind : EachFound (λ earlier. (out_in earlier ≤ drawn_in earlier) × Precedes earlier word) views
+    -- of two words one came before the other
+    pub ordered : EachFound (λ one. EachFound (λ other. Precedes one other ⊎ Precedes other one) views) views
+
 module _ {V I B : Type 0} (items : V → List I) (number : I → ℕ) (base : V → B) where
-  -- the pass has this base, the list begins with what it has seen, and the entries of its number are its own
+  -- the pass has this base, the list begins with what it has seen, and the entries of its number are its own, and seen by it
   pub record Fits (origin : B) (list : List I) (a : Account I B) : Type 0 where
     pub base_is : a.base ≡ origin
     pub begins : BeginsWith list a.seen
     pub own_is : of_pass number a.number list ≡ a.own
+    pub own_seen : of_pass number a.number a.seen ≡ a.own
 
   -- a ticket is out for a pass, and the value is out under the ticket that is served, with a pass that has seen the list
   abbrev pub Stands : List I → ℕ → List (Account I B) → Stage → Type 0
@@ -142,6 +154,10 @@ module _ {V I B : Type 0} (items : V → List I) (number : I → ℕ) (base : V 
   pub record Roll (callers : ℕ) (list : List I) (made word : ℕ) (views : List (View I B)) : Type 0 where
     -- the numbers that were drawn, with those to be undone, and the passes that are out, with those to come or to go
     pub counted : word ≡ (made + sum_by undone_of views) * 4294967296 + sum_by out_of views
+    -- there are never more out than numbers drawn
+    pub fewer : sum_by out_of views ≤ made + sum_by undone_of views
+    -- what was found of the roll is true
+    pub told : Told word views
     -- past so many numbers each one that is drawn is undone
     pub small : made ≤ 4294967168
     pub spent : 0 < sum_by undone_of views → made ≡ 4294967168

@@ -1,5 +1,5 @@
 -- What a pass knows of the one list, and where it stands. This project's own.
-use Rattle.std.specs.Prelude.{◌≡◌, ℕ, ◌/◌, ◌%◌, ◌==◌, nat_lt, if◌then◌else◌, List, [], ◌∷◌, ◌++◌, length, filter, Option, Some, None, Bool, true, false, ◌&&◌, is_none}
+use Rattle.std.specs.Prelude.{◌≡◌, ℕ, ◌-◌, ◌/◌, ◌%◌, ◌<◌, ◌≤◌, ◌==◌, All, nat_lt, if◌then◌else◌, List, [], ◌∷◌, ◌++◌, length, filter, Option, Some, None, Bool, true, false, ◌&&◌, is_none}
 use Rattle.atomic_table.specs.Table.{Me}
 use Rattle.lg_turn.specs.declared.view.Account.{Account}
 use Rattle.lg_turn.specs.declared.view.View.{View}
@@ -13,6 +13,14 @@ drawn_in word = word / 4294967296
 -- how many passes were out, in a word of the roll
 abbrev pub out_in : ℕ → ℕ
 out_in word = word % 4294967296
+
+-- how many had gone again of those for which a number was drawn, in a word of the roll
+abbrev pub gone_in : ℕ → ℕ
+gone_in word = drawn_in word - out_in word
+
+-- the roll may come from one word to another: while numbers are left no number is drawn again, and who has gone stays gone
+abbrev pub Precedes : ℕ → ℕ → Type 0
+Precedes word later = (drawn_in later < 4294967168 → drawn_in word ≤ drawn_in later) × (gone_in word ≤ gone_in later)
 
 module _ {I : Type 0} where
   -- of two beginnings of one list the longer one
@@ -28,8 +36,8 @@ module _ {I : Type 0} where
   of_pass number n list = filter (λ e. number e == n) list
 
 module _ {I B : Type 0} where
-  abbrev pub account_of : ℕ → B → List I → List I → List ℕ → Account I B
-  account_of n base seen own asked = record { number = n; base = base; seen = seen; own = own; asked = asked }
+  abbrev pub account_of : ℕ → B → List I → List I → List (ℕ × ℕ) → Account I B
+  account_of n base seen own moves = record { number = n; base = base; seen = seen; own = own; moves = moves }
 
   -- the account of a pass that has seen and made nothing
   abbrev pub blank : B → ℕ → Account I B
@@ -60,9 +68,17 @@ module _ {I B : Type 0} where
   own_in [] = []
   own_in (a ∷ rest) = a.own
 
-  abbrev pub asked_in : List (Account I B) → List ℕ
-  asked_in [] = []
-  asked_in (a ∷ rest) = a.asked
+  abbrev pub moves_in : List (Account I B) → List (ℕ × ℕ)
+  moves_in [] = []
+  moves_in (a ∷ rest) = a.moves
+
+  -- what P says holds of each word that the passes found or left
+  abbrev pub EachWord : (ℕ → Type 0) → List (Account I B) → Type 0
+  EachWord P accounts = All (λ (a : Account I B). All (λ m. P m.0 × P m.1) a.moves) accounts
+
+  -- the roll may come to this word from all words that the passes found or left
+  abbrev pub MayFollow : List (Account I B) → ℕ → Type 0
+  MayFollow accounts word = (out_in word ≤ drawn_in word) × EachWord (λ earlier. Precedes earlier word) accounts
 
   abbrev pub view_of : List (Account I B) → Stage → View I B
   view_of accounts stage = record { accounts = accounts; stage = stage }

@@ -3,8 +3,8 @@ ghost use Rattle.std.specs.Prelude.{◌≡◌, ◌+◌, ◌*◌, ◌<◌, ◌≤
 ghost use Rattle.lg_turn.specs.declared.view.Stage.TheVariants.{Idle, Enrols};
 ghost use Rattle.lg_turn.specs.Views.{number_in, view_of, drawn_in, out_in};
 ghost use Rattle.lg_turn.specs.Rule.{out_count, undone_count};
-ghost use Rattle.lg_turn.specs.Steps.{HasEnrolled, noted, newcomer};
-ghost use Rattle.lg_turn.specs.Passes.{number_of, found_by, fault_at, IsAway, IsPassOf, IsAsBefore, HasAskedOnce, IsSplitOff, callers_of};
+ghost use Rattle.lg_turn.specs.Steps.{HasEnrolled, drawing, newcomer};
+ghost use Rattle.lg_turn.specs.Passes.{number_of, found_by, fault_at, IsAway, IsPassOf, IsAsBefore, HasMovedOnce, IsSplitOff, callers_of};
 
 use super::{ONE_MORE, ROLL, SeatOf, SharedOf, Turn};
 use crate::fault::TurnFault;
@@ -58,10 +58,10 @@ impl<V: Keeps> Turn<V> {
         requires turn { IsPassOf self.now pass.old }
         requires away { IsAway pass.old }
         ensures same { IsAsBefore pass.old pass.new }
-        ensures asked { HasAskedOnce pass.old pass.new }
+        ensures moved { HasMovedOnce drawing pass.old pass.new }
         ensures ok { IfOk result (λ _. fault_at (callers_of self.now) (found_by pass.new) ≡ None) }
         ensures err { IfErr result (λ fault. fault_at (callers_of self.now) (found_by pass.new) ≡ Some fault) }
-        ensures new { IfOk result (λ other. IsPassOf self.now other × IsSplitOff pass.old (drawn_in (found_by pass.new)) other) }
+        ensures new { IfOk result (λ other. IsPassOf self.now other × IsSplitOff pass.new (drawn_in (found_by pass.new)) other) }
         ensures above { IfOk result (λ other. number_of pass.old < number_of other) }
     {
         let shared = &self.table.shared;
