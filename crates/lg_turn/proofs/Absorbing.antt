@@ -15,7 +15,7 @@ use Rattle.lg_turn.specs.declared.view.Account.{Account}
 use Rattle.lg_turn.specs.declared.view.View.{View}
 use Rattle.lg_turn.specs.declared.view.Stage.TheVariants.{Idle}
 use Rattle.lg_turn.specs.Views.{BeginsWith, account_of, view_of, number_in, seen_in, longer, drawn_in, out_in, Precedes, MayFollow}
-use Rattle.lg_turn.specs.Rule.{passes_of, with_number, low_of, out_of, undone_of, EachFound, Told, Fits, Roll, IsKept}
+use Rattle.lg_turn.specs.Rule.{passes_of, with_number, made_of, low_of, out_of, undone_of, EachFound, Told, Fits, Roll, IsKept}
 use Rattle.lg_turn.specs.Steps.{leaving, Absorbs}
 use Rattle.lg_turn.proofs.Sums.{sum_by_set, part-le-sum_by}
 use Rattle.lg_turn.proofs.Counts.{one_if_same}
@@ -76,6 +76,12 @@ module _ {V I B : Type 0} (items : V → List I) (number : I → ℕ) (base : V 
         let m = sum_by_set (with_number n) s.views id v w at in
         omega (arith, m, sum_by-cons one b (a ∷ []), sum_by-cons one a [], sum_by-cons one one_pass [])
 
+    made_moved : (n : ℕ) → sum_by (made_of callers n) (set s.views id w) ≤ sum_by (made_of callers n) s.views
+    made_moved n =
+        let one : Account I B → ℕ = λ c. if c.number == n then 1 else 0 in
+        let m = sum_by_set (made_of callers n) s.views id v w at in
+        omega (arith, m, sum_by-cons one b (a ∷ []), sum_by-cons one a [], sum_by-cons one one_pass [])
+
     low_moved : sum_by (low_of callers) (set s.views id w) ≤ sum_by (low_of callers) s.views
     low_moved =
         let one : Account I B → ℕ = λ c. if nat_lt c.number callers then 1 else 0 in
@@ -89,17 +95,17 @@ module _ {V I B : Type 0} (items : V → List I) (number : I → ℕ) (base : V 
         let undone = undone_few items number base callers origin s k in
         omega (arith, k.roll.counted, small, few, undone, out_moved)
 
-    abbrev made_now : ℕ
-    made_now = k.made + sum_by undone_of s.views
+    abbrev numbers_now : ℕ
+    numbers_now = k.next + sum_by undone_of s.views
 
     abbrev O : ℕ
     O = sum_by out_of s.views
 
-    up : drawn_in k.word ≡ made_now
-    up = let few = outs_few items number base callers origin s k in upper_half k.word made_now O k.roll.counted (omega (arith, few))
+    up : drawn_in k.word ≡ numbers_now
+    up = let few = outs_few items number base callers origin s k in upper_half k.word numbers_now O k.roll.counted (omega (arith, few))
 
     low : out_in k.word ≡ O
-    low = let few = outs_few items number base callers origin s k in lower_half k.word made_now O k.roll.counted (omega (arith, few))
+    low = let few = outs_few items number base callers origin s k in lower_half k.word numbers_now O k.roll.counted (omega (arith, few))
 
     follows : MayFollow (b ∷ a ∷ []) k.word
     follows = (
@@ -111,7 +117,7 @@ module _ {V I B : Type 0} (items : V → List I) (number : I → ℕ) (base : V 
     numbers_below : (n : ℕ) → 0 < with_number n v → n < drawn_in k.word
     numbers_below n mine =
         let part = part-le-sum_by (with_number n) s.views id v at in
-        let small : n < k.made = dite (dec_lt n k.made) (λ h. h) (λ h. let z = (k.roll.numbers n).1 (omega (arith, h)) in absurd (omega (arith, z, part, mine))) in
+        let small : n < k.next = dite (dec_lt n k.next) (λ h. h) (λ h. let z = (k.roll.numbers n).1 (omega (arith, h)) in absurd (omega (arith, z, part, mine))) in
         omega (arith, small, up)
 
     told_absorbed : Told (k.word - 1) (set s.views id w)
@@ -119,16 +125,16 @@ module _ {V I B : Type 0} (items : V → List I) (number : I → ℕ) (base : V 
         let few = outs_few items number base callers origin s k in
         let counted = k.roll.counted in
         let fewer = k.roll.fewer in
-        let less : k.word - 1 ≡ made_now * 4294967296 + (O - 1) = omega (arith, counted, out_moved) in
-        let up' = upper_half (k.word - 1) made_now (O - 1) less (omega (arith, few)) in
-        let low' = lower_half (k.word - 1) made_now (O - 1) less (omega (arith, few)) in
+        let less : k.word - 1 ≡ numbers_now * 4294967296 + (O - 1) = omega (arith, counted, out_moved) in
+        let up' = upper_half (k.word - 1) numbers_now (O - 1) less (omega (arith, few)) in
+        let low' = lower_half (k.word - 1) numbers_now (O - 1) less (omega (arith, few)) in
         told_on k.word (k.word - 1) s.views (set s.views id w) k.roll.told follows.0 (omega (arith, up', low', fewer))
-        (precedes_by k.word (k.word - 1) made_now O made_now (O - 1) up low up' low' (λ h. omega arith) (omega (arith, fewer, out_moved)))
+        (precedes_by k.word (k.word - 1) numbers_now O numbers_now (O - 1) up low up' low' (λ h. omega arith) (omega (arith, fewer, out_moved)))
         (λ P h p q. let M : Account I B → Type 0 = λ c. All (λ (m : ℕ × ℕ). P m.0 × P m.1) c.moves in
         each_found_set P s.views id w h
         (each_word_one P one_pass (All-cons (λ (m : ℕ × ℕ). P m.0 × P m.1) (leaving k.word) a.moves (p, q) (All-head M a [] (All-tail M b (a ∷ []) (h id v at))))))
 
-    roll_absorbed : Roll items number base callers k.list k.made (k.word - 1) (set s.views id w)
+    roll_absorbed : Roll items number base callers k.list k.made k.next (k.word - 1) (set s.views id w)
     roll_absorbed =
         let r = k.roll in record {
           counted = omega (arith, r.counted, out_moved, undone_moved);
@@ -138,6 +144,7 @@ module _ {V I B : Type 0} (items : V → List I) (number : I → ℕ) (base : V 
           spent = λ h. r.spent (omega (arith, h, undone_moved));
           passes = omega (arith, passes_moved, r.passes);
           numbers = λ n. let less = numbers_moved n in let o = r.numbers n in (omega (arith, less, o.0), λ l. let z = o.1 l in omega (arith, less, z));
+          given = λ n. let less = made_moved n in let once = r.given n in (omega (arith, less, once.0), once.1, once.2);
           entered = r.entered;
           whole = λ h. r.whole (omega (arith, h, low_moved));
         }
@@ -159,7 +166,7 @@ module _ {V I B : Type 0} (items : V → List I) (number : I → ℕ) (base : V 
         subst (λ (n : ℕ). Rule (stepped s 2 n id [] w keeps)) (sym word_less)
         (rolled items number base callers origin s k id (b ∷ a ∷ []) (one_pass ∷ []) Idle Idle at refl (λ t. refl) refl
         record { fits = All-cons F one_pass [] record { base_is = mine.base_is; begins = both_begin.0; own_is = mine.own_is; own_seen = of_pass-between number a.number k.list (longer a.seen b.seen) a.seen a.own both_begin.0 both_begin.1 mine.own_is mine.own_seen } (All-nil F); stands = tt }
-        [] k.made (k.word - 1) roll_absorbed)
+        [] k.made k.next (k.word - 1) roll_absorbed)
 
   pub absorbs : (slots id : ℕ) (b a : Account I B) → Allows Rule slots id (view_of (b ∷ a ∷ []) Idle, []) 2 (λ n. (n + (2 ^ 64 - 1)) % 2 ^ 64) (Absorbs (step slots 2 1 0 none) (view_of (b ∷ a ∷ []) Idle, []))
   absorbs slots id b a s k sized at small =

@@ -10,27 +10,28 @@ use Rattle.atomic_table.specs.Table.{State}
 use Rattle.lg_turn.specs.declared.view.View.{View}
 use Rattle.lg_turn.specs.Views.{drawn_in, out_in}
 use Rattle.lg_turn.specs.Rule.{passes_of, with_number, out_of, undone_of, IsKept}
+use Rattle.lg_turn.proofs.Parts.{entered_below}
 use Rattle.lg_turn.proofs.Sums.{part-le-sum_by, two_parts-le-sum_by, sum_by-le-sum_by}
 use Rattle.lg_turn.proofs.Rolls.{upper_half, lower_half, outs_few}
 
 module _ {V I B : Type 0} (items : V → List I) (number : I → ℕ) (base : V → B) (callers : ℕ) (origin : B) (s : State (Option V) (View I B)) where
-  found_is : (k : IsKept items number base callers origin s) → get_or s.words 2 0 ≡ (k.made + sum_by undone_of s.views) * 4294967296 + sum_by out_of s.views
+  found_is : (k : IsKept items number base callers origin s) → get_or s.words 2 0 ≡ (k.next + sum_by undone_of s.views) * 4294967296 + sum_by out_of s.views
   found_is k = ap (λ (l : List ℕ). get_or l 2 0) k.words ∙ k.roll.counted
 
-  drawn_is : (k : IsKept items number base callers origin s) → drawn_in (get_or s.words 2 0) ≡ k.made + sum_by undone_of s.views
-  drawn_is k = upper_half (get_or s.words 2 0) (k.made + sum_by undone_of s.views) (sum_by out_of s.views) (found_is k) (omega (arith, outs_few items number base callers origin s k))
+  drawn_is : (k : IsKept items number base callers origin s) → drawn_in (get_or s.words 2 0) ≡ k.next + sum_by undone_of s.views
+  drawn_is k = upper_half (get_or s.words 2 0) (k.next + sum_by undone_of s.views) (sum_by out_of s.views) (found_is k) (omega (arith, outs_few items number base callers origin s k))
 
   pub roll_counts : IsKept items number base callers origin s → out_in (get_or s.words 2 0) ≡ sum_by out_of s.views
-  roll_counts k = lower_half (get_or s.words 2 0) (k.made + sum_by undone_of s.views) (sum_by out_of s.views) (found_is k) (omega (arith, outs_few items number base callers origin s k))
+  roll_counts k = lower_half (get_or s.words 2 0) (k.next + sum_by undone_of s.views) (sum_by out_of s.views) (found_is k) (omega (arith, outs_few items number base callers origin s k))
 
   pub next_new : (i n : ℕ) (v : View I B) → IsKept items number base callers origin s → get_elem? s.views i ≡ some v → 0 < with_number n v → n < drawn_in (get_or s.words 2 0)
   next_new i n v k at has =
       let part = part-le-sum_by (with_number n) s.views i v at in
-      let small : n < k.made = dite (dec_lt n k.made) (λ h. h) (λ h. let z = (k.roll.numbers n).1 (omega (arith, h)) in absurd (omega (arith, z, part, has))) in
+      let small : n < k.next = dite (dec_lt n k.next) (λ h. h) (λ h. let z = (k.roll.numbers n).1 (omega (arith, h)) in absurd (omega (arith, z, part, has))) in
       omega (arith, small, drawn_is k)
 
   pub next_unentered : (k : IsKept items number base callers origin s) → All (λ e. number e < drawn_in (get_or s.words 2 0)) k.list
-  next_unentered k = All-weaker (λ e. number e < k.made) (λ e. number e < drawn_in (get_or s.words 2 0)) (λ e h. omega (arith, h, drawn_is k)) k.list k.roll.entered
+  next_unentered k = All-weaker (λ e. number e < k.next) (λ e. number e < drawn_in (get_or s.words 2 0)) (λ e h. omega (arith, h, drawn_is k)) k.list (entered_below items number base callers k.list k.made k.next k.word s.views k.roll)
 
   pub number_once : (i j n : ℕ) (v w : View I B) → IsKept items number base callers origin s → get_elem? s.views i ≡ some v → 0 < with_number n v → get_elem? s.views j ≡ some w → 0 < with_number n w → i ≡ j
   number_once i j n v w k at has at' has' =

@@ -13,7 +13,7 @@ use Rattle.atomic_table.specs.Table.{opening}
 use Rattle.lg_turn.specs.declared.view.Account.{Account}
 use Rattle.lg_turn.specs.declared.view.View.{View}
 use Rattle.lg_turn.specs.Views.{blank}
-use Rattle.lg_turn.specs.Rule.{Fits, Knows, IsKept}
+use Rattle.lg_turn.specs.Rule.{times, Fits, Knows, IsKept}
 use Rattle.lg_turn.specs.Steps.{beginning}
 use Rattle.lg_turn.proofs.Counts.{one_if_same, none_if_other}
 use Rattle.lg_turn.proofs.Told.{told_at_first}
@@ -33,6 +33,11 @@ module _ (I : Type 0) {B : Type 0} (over : B) where
       (λ same. let this : one n (blank over low) ≡ 1 = one_if_same low n same in let behind = rest.1 (omega arith) in (omega arith, (λ h. absurd (omega arith)), λ h. absurd (omega arith)))
       (λ other. let this : one n (blank over low) ≡ 0 = none_if_other low n other in (omega arith, (λ h. let behind = rest.1 (omega arith) in omega arith), λ h. let behind = rest.2 (omega arith) in omega arith))
 
+  -- as often as it stands in the list of numbers
+  blank_times : (n : ℕ) (numbers : List ℕ) → sum_by (one n) (map (blank over) numbers) ≡ times n numbers
+  blank_times n [] = refl
+  blank_times n (m ∷ rest) = omega (arith, blank_times n rest, sum_by-cons (one n) (blank over m) (map (blank over) rest), sum_by-cons (λ (k : ℕ). if k == n then 1 else 0) m rest)
+
 module _ {V I B : Type 0} (items : V → List I) (number : I → ℕ) (base : V → B) (callers passes : ℕ) (value : V) where
   begins_known : (i : ℕ) (v : View I B) → get_elem? (beginning passes (base value) ∷ []) i ≡ some v → Knows items number base (base value) [] 0 v
   begins_known zero v e = subst (Knows items number base (base value) [] 0) (some-injective (beginning passes (base value)) v e) record {
@@ -46,7 +51,8 @@ module _ {V I B : Type 0} (items : V → List I) (number : I → ℕ) (base : V 
     list = [];
     serving = 0;
     ticket = 0;
-    made = passes;
+    made = range_with_len 0 passes;
+    next = passes;
     word = word;
     words = refl;
     slot = inl (value, refl, empty, refl, refl);
@@ -60,8 +66,10 @@ module _ {V I B : Type 0} (items : V → List I) (number : I → ℕ) (base : V 
       spent = λ h. absurd (omega arith);
       passes = omega (arith, wide);
       numbers = λ n. let once = blank_numbers I (base value) n 0 passes in (omega (arith, once.0), λ h. let none_there = once.2 (omega arith) in omega arith);
-      entered = All-nil (λ e. number e < passes);
-      whole = λ h. All-nil (λ e. number e < callers);
+      given = λ n. let once = blank_numbers I (base value) n 0 passes in let same = blank_times I (base value) n (range_with_len 0 passes) in
+          (omega (arith, same), omega (arith, same, once.0), λ h. let none_there = once.2 (omega arith) in omega (arith, same, none_there));
+      entered = All-nil (λ e. times (number e) (range_with_len 0 passes) ≡ 1);
+      whole = λ h n high. let once = blank_numbers I (base value) n 0 passes in let same = blank_times I (base value) n (range_with_len 0 passes) in let none_there = once.2 (omega (arith, high, fit)) in omega (arith, same, none_there);
     };
     drawn = refl;
     apart = λ t. (omega arith, (λ h. refl), λ h. refl);

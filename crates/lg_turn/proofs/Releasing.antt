@@ -11,7 +11,7 @@ use Rattle.lg_turn.specs.declared.view.View.{View}
 use Rattle.lg_turn.specs.declared.view.Stage.{Stage}
 use Rattle.lg_turn.specs.declared.view.Stage.TheVariants.{Idle, Waits, Holds, Enrols, Undoes, Alone}
 use Rattle.lg_turn.specs.Views.{view_of, drawn_in, out_in}
-use Rattle.lg_turn.specs.Rule.{passes_of, with_number, low_of, out_of, undone_of, ticket_count, same_ticket, value_count, out_count, undone_count, EachFound, Told, Roll, IsKept}
+use Rattle.lg_turn.specs.Rule.{passes_of, with_number, made_of, low_of, out_of, undone_of, ticket_count, same_ticket, value_count, out_count, undone_count, EachFound, Told, Roll, IsKept}
 use Rattle.lg_turn.specs.Steps.{Releases}
 use Rattle.lg_turn.proofs.Sums.{sum_by_set}
 use Rattle.lg_turn.proofs.Rolls.{outs_few, undone_few, upper_half, lower_half}
@@ -59,6 +59,9 @@ module _ {V I B : Type 0} (items : V → List I) (number : I → ℕ) (base : V 
     numbers_moved : (n : ℕ) → sum_by (with_number n) (set s.views id w) ≤ sum_by (with_number n) s.views
     numbers_moved n = let m = sum_by_set (with_number n) s.views id v w at in omega (arith, m)
 
+    made_moved : (n : ℕ) → sum_by (made_of callers n) (set s.views id w) ≤ sum_by (made_of callers n) s.views
+    made_moved n = let m = sum_by_set (made_of callers n) s.views id v w at in omega (arith, m)
+
     low_moved : sum_by (low_of callers) (set s.views id w) ≤ sum_by (low_of callers) s.views
     low_moved = let m = sum_by_set (low_of callers) s.views id v w at in omega (arith, m)
 
@@ -69,8 +72,8 @@ module _ {V I B : Type 0} (items : V → List I) (number : I → ℕ) (base : V 
         let undone = undone_few items number base callers origin s k in
         omega (arith, k.roll.counted, small, few, undone, out_moved, undone_moved, is)
 
-    abbrev made_now : ℕ
-    made_now = k.made + sum_by undone_of s.views
+    abbrev numbers_now : ℕ
+    numbers_now = k.next + sum_by undone_of s.views
 
     told_released : Told (k.word - excess) (set s.views id w)
     told_released =
@@ -79,18 +82,18 @@ module _ {V I B : Type 0} (items : V → List I) (number : I → ℕ) (base : V 
         let fewer = k.roll.fewer in
         let spent = k.roll.spent in
         let one = undone-le-one stage in
-        let up = upper_half k.word made_now (sum_by out_of s.views) counted (omega (arith, few)) in
-        let low = lower_half k.word made_now (sum_by out_of s.views) counted (omega (arith, few)) in
-        let less : k.word - excess ≡ (made_now - undone_count stage) * 4294967296 + (sum_by out_of s.views - 1) = omega (arith, counted, is, out_moved, undone_moved) in
-        let up' = upper_half (k.word - excess) (made_now - undone_count stage) (sum_by out_of s.views - 1) less (omega (arith, few)) in
-        let low' = lower_half (k.word - excess) (made_now - undone_count stage) (sum_by out_of s.views - 1) less (omega (arith, few)) in
+        let up = upper_half k.word numbers_now (sum_by out_of s.views) counted (omega (arith, few)) in
+        let low = lower_half k.word numbers_now (sum_by out_of s.views) counted (omega (arith, few)) in
+        let less : k.word - excess ≡ (numbers_now - undone_count stage) * 4294967296 + (sum_by out_of s.views - 1) = omega (arith, counted, is, out_moved, undone_moved) in
+        let up' = upper_half (k.word - excess) (numbers_now - undone_count stage) (sum_by out_of s.views - 1) less (omega (arith, few)) in
+        let low' = lower_half (k.word - excess) (numbers_now - undone_count stage) (sum_by out_of s.views - 1) less (omega (arith, few)) in
         told_on k.word (k.word - excess) s.views (set s.views id w) k.roll.told (omega (arith, up, low, fewer)) (omega (arith, up', low', fewer, out_moved, undone_moved, one))
-        (precedes_by k.word (k.word - excess) made_now (sum_by out_of s.views) (made_now - undone_count stage) (sum_by out_of s.views - 1) up low up' low'
+        (precedes_by k.word (k.word - excess) numbers_now (sum_by out_of s.views) (numbers_now - undone_count stage) (sum_by out_of s.views - 1) up low up' low'
         (λ h. dite (dec_le (undone_count stage) 0) (λ z. omega (arith, z)) (λ some. let all_drawn = spent (omega (arith, some, undone_moved)) in absurd (omega (arith, all_drawn, h, undone_moved))))
         (omega (arith, fewer, out_moved, undone_moved, one)))
         (λ P h p q. each_found_set P s.views id w h (h id v at))
 
-    roll_released : Roll items number base callers k.list k.made (k.word - excess) (set s.views id w)
+    roll_released : Roll items number base callers k.list k.made k.next (k.word - excess) (set s.views id w)
     roll_released =
         let r = k.roll in record {
           counted = omega (arith, r.counted, out_moved, undone_moved, is);
@@ -100,6 +103,7 @@ module _ {V I B : Type 0} (items : V → List I) (number : I → ℕ) (base : V 
           spent = λ h. r.spent (omega (arith, h, undone_moved));
           passes = omega (arith, passes_moved, r.passes);
           numbers = λ n. let less = numbers_moved n in let o = r.numbers n in (omega (arith, less, o.0), λ l. let z = o.1 l in omega (arith, less, z));
+          given = λ n. let less = made_moved n in let once = r.given n in (omega (arith, less, once.0), once.1, once.2);
           entered = r.entered;
           whole = λ h. r.whole (omega (arith, h, low_moved));
         }
@@ -108,7 +112,7 @@ module _ {V I B : Type 0} (items : V → List I) (number : I → ℕ) (base : V 
     released =
         let q = quiet stage one_out in
         subst (λ (n : ℕ). Rule (stepped s 2 n id [] w keeps)) (sym word_less)
-        (rolled items number base callers origin s k id accounts accounts stage Idle at q.0 q.1 q.2 record { fits = (k.each_pass id v at).fits; stands = tt } [] k.made (k.word - excess) roll_released)
+        (rolled items number base callers origin s k id accounts accounts stage Idle at q.0 q.1 q.2 record { fits = (k.each_pass id v at).fits; stands = tt } [] k.made k.next (k.word - excess) roll_released)
 
   pub releases : (slots id excess : ℕ) (accounts : List (Account I B)) (stage : Stage) → out_count stage ≡ 1 → excess ≡ undone_count stage * 4294967296 + 1
       → Allows Rule slots id (view_of accounts stage, []) 2 (λ n. (n + (2 ^ 64 - excess)) % 2 ^ 64) (Releases (step slots 2 excess 0 none) (view_of accounts stage, []))
