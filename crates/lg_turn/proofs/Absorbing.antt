@@ -14,7 +14,7 @@ use Rattle.atomic_table.specs.Table.{State, Act, Me, step, keeps, stepped, carri
 use Rattle.lg_turn.specs.declared.view.Account.{Account}
 use Rattle.lg_turn.specs.declared.view.View.{View}
 use Rattle.lg_turn.specs.declared.view.Stage.TheVariants.{Idle}
-use Rattle.lg_turn.specs.Views.{BeginsWith, account_of, view_of, number_in, seen_in, longer, drawn_in, out_in, Precedes, MayFollow}
+use Rattle.lg_turn.specs.Views.{BeginsWith, of_pass, account_of, view_of, number_in, seen_in, longer, drawn_in, out_in, Precedes, MayFollow}
 use Rattle.lg_turn.specs.Rule.{passes_of, with_number, made_of, low_of, out_of, undone_of, EachFound, Told, Fits, Roll, IsKept}
 use Rattle.lg_turn.specs.Steps.{leaving, Absorbs}
 use Rattle.lg_turn.proofs.Sums.{sum_by_set, part-le-sum_by}
@@ -161,22 +161,25 @@ module _ {V I B : Type 0} (items : V → List I) (number : I → ℕ) (base : V 
     both_begin : BeginsWith k.list (longer a.seen b.seen) × BeginsWith (longer a.seen b.seen) a.seen × BeginsWith (longer a.seen b.seen) b.seen
     both_begin = longer_begins k.list a.seen b.seen mine.begins yours.begins
 
+    own_after : of_pass number a.number (longer a.seen b.seen) ≡ a.own
+    own_after = of_pass-between number a.number k.list (longer a.seen b.seen) a.seen a.own both_begin.0 both_begin.1 mine.own_is mine.own_seen
+
     absorbed_kept : Rule (stepped s 2 ((k.word + (2 ^ 64 - 1)) % 2 ^ 64) id [] w keeps)
     absorbed_kept =
         subst (λ (n : ℕ). Rule (stepped s 2 n id [] w keeps)) (sym word_less)
         (rolled items number base callers origin s k id (b ∷ a ∷ []) (one_pass ∷ []) Idle Idle at refl (λ t. refl) refl
-        record { fits = All-cons F one_pass [] record { base_is = mine.base_is; begins = both_begin.0; own_is = mine.own_is; own_seen = of_pass-between number a.number k.list (longer a.seen b.seen) a.seen a.own both_begin.0 both_begin.1 mine.own_is mine.own_seen } (All-nil F); stands = tt }
+        record { fits = All-cons F one_pass [] record { base_is = mine.base_is; begins = both_begin.0; own_is = mine.own_is; own_seen = own_after } (All-nil F); stands = tt }
         [] k.made k.next (k.word - 1) roll_absorbed)
 
-  pub absorbs : (slots id : ℕ) (b a : Account I B) → Allows Rule slots id (view_of (b ∷ a ∷ []) Idle, []) 2 (λ n. (n + (2 ^ 64 - 1)) % 2 ^ 64) (Absorbs (step slots 2 1 0 none) (view_of (b ∷ a ∷ []) Idle, []))
+  pub absorbs : (slots id : ℕ) (b a : Account I B) → Allows Rule slots id (view_of (b ∷ a ∷ []) Idle, []) 2 (λ n. (n + (2 ^ 64 - 1)) % 2 ^ 64) (Absorbs number (step slots 2 1 0 none) (view_of (b ∷ a ∷ []) Idle, []))
   absorbs slots id b a s k sized at small =
       let found_is : get_or s.words 2 0 ≡ k.word = ap (λ (l : List ℕ). get_or l 2 0) k.words in
       let begin = both_begin s k id b a at in
       let P : Account I B → Type 0 = λ c. BeginsWith (longer a.seen b.seen) c.seen × (c.number < drawn_in k.word) in
       let w : View I B = view_of (account_of a.number a.base (longer a.seen b.seen) a.own (leaving k.word ∷ a.moves) ∷ []) Idle in
       let both : All P (b ∷ a ∷ []) = All-cons P b (a ∷ []) (begin.2, numbers_below s k id b a at b.number (omega (arith, one_if_same b.number b.number refl))) (All-cons P a [] (begin.1, numbers_below s k id b a at a.number (omega (arith, one_if_same a.number a.number refl))) (All-nil P)) in
-      subst (λ (n : ℕ). (u : View I B) × (c : Act (Option V)) × Valid s.homes [] c × Rule (stepped s 2 ((n + (2 ^ 64 - 1)) % 2 ^ 64) id [] u c) × Absorbs (step slots 2 1 0 none) (view_of (b ∷ a ∷ []) Idle, []) n (u, carried_after [] c)) (sym found_is)
-      (w, keeps, tt, absorbed_kept s k id b a at, (refl, both, follows s k id b a at))
+      subst (λ (n : ℕ). (u : View I B) × (c : Act (Option V)) × Valid s.homes [] c × Rule (stepped s 2 ((n + (2 ^ 64 - 1)) % 2 ^ 64) id [] u c) × Absorbs number (step slots 2 1 0 none) (view_of (b ∷ a ∷ []) Idle, []) n (u, carried_after [] c)) (sym found_is)
+      (w, keeps, tt, absorbed_kept s k id b a at, (refl, both, follows s k id b a at, own_after s k id b a at))
 
 module _ {I B : Type 0} where
   -- what holds of all accounts of two passes holds of those of each

@@ -9,20 +9,20 @@ use Rattle.std.specs.List.{sum_by, All}
 use Rattle.std.proofs.lemmas.Bool.{le-ltb}
 use Rattle.std.proofs.lemmas.List.{length-map}
 use Rattle.std.proofs.lemmas.List.Sums.{sum_by-cons, sum_by-append}
-use Rattle.std.proofs.lemmas.List.Elements.{All-map, All-weaker}
+use Rattle.std.proofs.lemmas.List.Elements.{All-head, All-map, All-weaker}
 use Rattle.atomic_table.specs.Table.{State, Act, step, keeps, stepped, carried_after, Valid, Allows}
 use Rattle.lg_turn.specs.declared.view.Account.{Account}
 use Rattle.lg_turn.specs.declared.view.View.{View}
 use Rattle.lg_turn.specs.declared.view.Stage.{Stage}
 use Rattle.lg_turn.specs.declared.view.Stage.TheVariants.{Idle, Waits, Holds, Enrols, Undoes, Alone}
-use Rattle.lg_turn.specs.Views.{view_of, number_in, drawn_in, out_in, of_pass, Precedes, MayFollow}
+use Rattle.lg_turn.specs.Views.{view_of, number_in, seen_in, drawn_in, out_in, of_pass, Precedes, MayFollow}
 use Rattle.lg_turn.specs.Rule.{passes_of, with_number, low_of, out_of, undone_of, values_of, tickets_of, with_ticket, ticket_count, same_ticket, value_count, place_count, out_count, undone_count, same_number, low_count, coming_count, made_of, times, Fits, Knows, EachFound, Told, Roll, IsKept}
 use Rattle.lg_turn.specs.Steps.{moved, drawing, Enrolls, Counts}
 use Rattle.lg_turn.proofs.Sums.{sum_by_set, each_set, part-le-sum_by}
 use Rattle.lg_turn.proofs.Counts.{one_if_same, none_if_other, one_low, none_low}
 use Rattle.lg_turn.proofs.Parts.{sum_stays, entered_below, lows-le-passes}
 use Rattle.lg_turn.proofs.Accounts.{numbers_map, lows_map}
-use Rattle.lg_turn.proofs.Entries.{of_pass-undrawn}
+use Rattle.lg_turn.proofs.Entries.{of_pass-undrawn, of_pass-none_before}
 use Rattle.lg_turn.proofs.Told.{told_on, precedes_by, each_found_set, each_word_moved, each_word_weaker}
 use Rattle.lg_turn.proofs.Rolls.{upper_half, lower_half, outs_few, undone_few, places-le-out}
 
@@ -69,6 +69,11 @@ module _ {V I B : Type 0} (items : V → List I) (number : I → ℕ) (base : V 
   first_number : (callers : ℕ) (n : ℕ) (accounts : List (Account I B)) → 0 < length accounts → n ≡ number_in accounts → 0 < sum_by (λ (a : Account I B). if a.number == n then 1 else 0) accounts
   first_number callers n [] h is = absurd (omega arith)
   first_number callers n (a ∷ rest) h is = omega (arith, one_if_same a.number n (sym is), sum_by-cons (λ (x : Account I B). if x.number == n then 1 else 0) a rest)
+
+  -- what stands not in the list was not seen
+  none_seen : (n : ℕ) (list : List I) (origin : B) (accounts : List (Account I B)) → 0 < length accounts → All (Fits items number base origin list) accounts → of_pass number n list ≡ [] → of_pass number n (seen_in accounts) ≡ []
+  none_seen n list origin [] some_pass fits none_there = absurd (omega arith)
+  none_seen n list origin (a ∷ rest) some_pass fits none_there = of_pass-none_before number n list a.seen (All-head (Fits items number base origin list) a rest fits).begins none_there
 
   module _ (callers : ℕ) (origin : B) where
     abbrev Rule : State (Option V) (View I B) → Type 0
@@ -302,7 +307,7 @@ module _ {V I B : Type 0} (items : V → List I) (number : I → ℕ) (base : V 
 
     module _ (s : State (Option V) (View I B)) (k : Rule s) (id : ℕ) (accounts : List (Account I B)) (at : get_elem? s.views id ≡ some (view_of accounts Idle)) (some_pass : 0 < length accounts) (found : ℕ) (found_is : found ≡ k.word) (slots : ℕ) where
       enrol_undoes : 4294967168 ≤ drawn_in found
-          → (w : View I B) × (a : Act (Option V)) × Valid s.homes [] a × Rule (stepped s 2 ((found + 4294967297) % 2 ^ 64) id [] w a) × Enrolls (step slots 2 4294967297 0 none) (view_of accounts Idle, []) found (w, carried_after [] a)
+          → (w : View I B) × (a : Act (Option V)) × Valid s.homes [] a × Rule (stepped s 2 ((found + 4294967297) % 2 ^ 64) id [] w a) × Enrolls number (step slots 2 4294967297 0 none) (view_of accounts Idle, []) found (w, carried_after [] a)
       enrol_undoes h =
           let w : View I B = view_of (map (moved (drawing found)) accounts) Undoes in (
             w,
@@ -316,7 +321,7 @@ module _ {V I B : Type 0} (items : V → List I) (number : I → ℕ) (base : V 
           )
 
       enrol_draws : drawn_in found < 4294967168
-          → (w : View I B) × (a : Act (Option V)) × Valid s.homes [] a × Rule (stepped s 2 ((found + 4294967297) % 2 ^ 64) id [] w a) × Enrolls (step slots 2 4294967297 0 none) (view_of accounts Idle, []) found (w, carried_after [] a)
+          → (w : View I B) × (a : Act (Option V)) × Valid s.homes [] a × Rule (stepped s 2 ((found + 4294967297) % 2 ^ 64) id [] w a) × Enrolls number (step slots 2 4294967297 0 none) (view_of accounts Idle, []) found (w, carried_after [] a)
       enrol_draws h =
           let stage : Stage = Enrols (drawn_in found) (out_in found) in
           let w : View I B = view_of (map (moved (drawing found)) accounts) stage in
@@ -328,7 +333,7 @@ module _ {V I B : Type 0} (items : V → List I) (number : I → ℕ) (base : V 
                 (rolled s k id accounts (map (moved (drawing found)) accounts) Idle stage at refl (λ t. refl) refl
                 record { fits = fits s k id accounts at some_pass found found_is (drawing found); stands = (omega (arith, wide s k id accounts at some_pass found found_is (drawing found), some_pass), none_entered) }
                 [] (made_after s k id accounts at some_pass found found_is (drawing found)) (k.next + 1) (found + 4294967297) (roll_enrols s k id accounts at some_pass found found_is (drawing found) (λ P p q. (p, q)) h)),
-            ((λ l. absurd (omega (arith, l, h))), (λ _. (refl, below s k id accounts at some_pass found found_is (drawing found) h)), follows s k id accounts at some_pass found found_is (drawing found)),
+            ((λ l. absurd (omega (arith, l, h))), (λ _. (refl, below s k id accounts at some_pass found found_is (drawing found) h, none_seen (drawn_in found) k.list origin accounts some_pass (k.each_pass id (view_of accounts Idle) at).fits none_entered)), follows s k id accounts at some_pass found found_is (drawing found)),
           )
 
       counts_alone : out_in found ≡ 1
@@ -356,7 +361,7 @@ module _ {V I B : Type 0} (items : V → List I) (number : I → ℕ) (base : V 
             ((λ l. absurd (h l)), (λ _. (refl, omega (arith, part, out_is', some_pass, h))), follows s k id accounts at some_pass found found_is (found, found)),
           )
 
-    pub enrols : (slots id : ℕ) (accounts : List (Account I B)) → 0 < length accounts → Allows Rule slots id (view_of accounts Idle, []) 2 (λ n. (n + 4294967297) % 2 ^ 64) (Enrolls (step slots 2 4294967297 0 none) (view_of accounts Idle, []))
+    pub enrols : (slots id : ℕ) (accounts : List (Account I B)) → 0 < length accounts → Allows Rule slots id (view_of accounts Idle, []) 2 (λ n. (n + 4294967297) % 2 ^ 64) (Enrolls number (step slots 2 4294967297 0 none) (view_of accounts Idle, []))
     enrols slots id accounts some_pass s k sized at small =
         let found_is : get_or s.words 2 0 ≡ k.word = ap (λ (l : List ℕ). get_or l 2 0) k.words in
         dite (dec_lt (drawn_in (get_or s.words 2 0)) 4294967168)

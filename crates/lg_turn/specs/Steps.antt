@@ -6,7 +6,7 @@ use Rattle.lg_turn.specs.declared.view.Account.{Account}
 use Rattle.lg_turn.specs.declared.view.View.{View}
 use Rattle.lg_turn.specs.declared.view.Stage.TheVariants.{Idle, Waits, Holds, Enrols, Undoes, Alone}
 use Rattle.lg_turn.specs.declared.view.Stage.{Stage}
-use Rattle.lg_turn.specs.Views.{account_of, blank, MayFollow, first_of, others_of, number_in, seen_in, BeginsWith, view_of, drawn_in, out_in, longer}
+use Rattle.lg_turn.specs.Views.{account_of, blank, MayFollow, first_of, others_of, number_in, seen_in, own_in, of_pass, BeginsWith, view_of, drawn_in, out_in, longer}
 use Rattle.lg_turn.specs.Rule.{Fits}
 
 module _ {I B : Type 0} where
@@ -88,29 +88,9 @@ module _ {V I B : Type 0} where
   abbrev pub HasMoved : Me (Option V) (View I B) → ℕ × ℕ → Stage → Me (Option V) (View I B) → Type 0
   HasMoved me move stage me' = me' ≡ (view_of (map (moved move) me.0.accounts) stage, me.1)
 
-  -- a number was drawn and a place taken, or, past all numbers, both are to be undone
-  abbrev pub HasEnrolled : Me (Option V) (View I B) → ℕ → Me (Option V) (View I B) → Type 0
-  HasEnrolled me found me' =
-      (4294967168 ≤ drawn_in found → HasMoved me (drawing found) Undoes me')
-      × (drawn_in found < 4294967168 → HasMoved me (drawing found) (Enrols (drawn_in found) (out_in found)) me' × (number_in me.0.accounts < drawn_in found))
-      × MayFollow me.0.accounts found
-
-  abbrev pub Enrolls : Step (Option V) → Me (Option V) (View I B) → ℕ → Me (Option V) (View I B) → Type 0
-  Enrolls st me found me' = HasEnrolled me found me'
-
   -- the roll is right again
   abbrev pub Releases : Step (Option V) → Me (Option V) (View I B) → ℕ → Me (Option V) (View I B) → Type 0
   Releases st me found me' = me' ≡ (view_of me.0.accounts Idle, me.1)
-
-  -- the one of two passes is gone, and the other has seen the longer of what they had, which begins with both
-  abbrev pub HasAbsorbed : Me (Option V) (View I B) → ℕ → Me (Option V) (View I B) → Type 0
-  HasAbsorbed me found me' =
-      (me' ≡ (view_of (map (moved (leaving found)) (absorbed me.0.accounts)) Idle, me.1))
-      × All (λ (a : Account I B). BeginsWith (seen_in me'.0.accounts) a.seen × (a.number < drawn_in found)) me.0.accounts
-      × MayFollow me.0.accounts found
-
-  abbrev pub Absorbs : Step (Option V) → Me (Option V) (View I B) → ℕ → Me (Option V) (View I B) → Type 0
-  Absorbs st me found me' = HasAbsorbed me found me'
 
   -- one pass is out, which is this one, or more
   abbrev pub HasCounted : Me (Option V) (View I B) → ℕ → Me (Option V) (View I B) → Type 0
@@ -124,6 +104,35 @@ module _ {V I B : Type 0} where
 
   abbrev pub Draws : Step (Option V) → Me (Option V) (View I B) → ℕ → Me (Option V) (View I B) → Type 0
   Draws st me found me' = HasDrawn me found me'
+
+module _ {V I B : Type 0} (number : I → ℕ) where
+  -- a number was drawn, above that of the first pass, and no pass has seen an entry of it
+  abbrev pub HasDrawnNumber : Me (Option V) (View I B) → ℕ → Me (Option V) (View I B) → Type 0
+  HasDrawnNumber me found me' =
+      HasMoved me (drawing found) (Enrols (drawn_in found) (out_in found)) me'
+      × (number_in me.0.accounts < drawn_in found)
+      × (of_pass number (drawn_in found) (seen_in me.0.accounts) ≡ [])
+
+  -- a number was drawn and a place taken, or, past all numbers, both are to be undone
+  abbrev pub HasEnrolled : Me (Option V) (View I B) → ℕ → Me (Option V) (View I B) → Type 0
+  HasEnrolled me found me' =
+      (4294967168 ≤ drawn_in found → HasMoved me (drawing found) Undoes me')
+      × (drawn_in found < 4294967168 → HasDrawnNumber me found me')
+      × MayFollow me.0.accounts found
+
+  abbrev pub Enrolls : Step (Option V) → Me (Option V) (View I B) → ℕ → Me (Option V) (View I B) → Type 0
+  Enrolls st me found me' = HasEnrolled me found me'
+
+  -- the one of two passes is gone, and the other has seen the longer of what they had, which begins with both
+  abbrev pub HasAbsorbed : Me (Option V) (View I B) → ℕ → Me (Option V) (View I B) → Type 0
+  HasAbsorbed me found me' =
+      (me' ≡ (view_of (map (moved (leaving found)) (absorbed me.0.accounts)) Idle, me.1))
+      × All (λ (a : Account I B). BeginsWith (seen_in me'.0.accounts) a.seen × (a.number < drawn_in found)) me.0.accounts
+      × MayFollow me.0.accounts found
+      × (of_pass number (number_in me'.0.accounts) (seen_in me'.0.accounts) ≡ own_in me'.0.accounts)
+
+  abbrev pub Absorbs : Step (Option V) → Me (Option V) (View I B) → ℕ → Me (Option V) (View I B) → Type 0
+  Absorbs st me found me' = HasAbsorbed me found me'
 
 module _ {V I B : Type 0} (items : V → List I) (number : I → ℕ) (base : V → B) where
   -- the value came out under this ticket, and it fits what was known before

@@ -1,6 +1,6 @@
 //! A pass, by which one caller takes the turn.
 ghost use Rattle.std.specs.Prelude.{◌≡◌, length, IsTrue};
-ghost use Rattle.lg_turn.specs.Views.{number_in, is_settled};
+ghost use Rattle.lg_turn.specs.Views.{number_in, seen_in, own_in, of_pass, is_settled};
 
 use crate::keeps::Keeps;
 use crate::view::View;
@@ -14,5 +14,6 @@ pub struct Pass<V: Keeps> {
     pub(crate) seat: Seat<Option<V>, View<V::Item, V::Base>>,
     ghost one: { length seat.me.0.accounts ≡ 1 },
     ghost numbered: { number_in seat.me.0.accounts ≡ number },
+    ghost mine: { of_pass V.number number (seen_in seat.me.0.accounts) ≡ own_in seat.me.0.accounts },
     ghost settled: { IsTrue (is_settled seat.me) },
 }

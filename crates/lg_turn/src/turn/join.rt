@@ -1,7 +1,7 @@
 //! How two passes become one again.
 ghost use Rattle.std.specs.Prelude.{◌≡◌, ◌<◌, [], ◌∷◌, ◌++◌, length, map};
 ghost use Rattle.lg_turn.specs.declared.view.Stage.TheVariants.{Idle};
-ghost use Rattle.lg_turn.specs.Views.{BeginsWith, number_in, seen_in, view_of, longer, drawn_in, MayFollow};
+ghost use Rattle.lg_turn.specs.Views.{BeginsWith, of_pass, number_in, seen_in, own_in, view_of, longer, drawn_in, MayFollow};
 ghost use Rattle.lg_turn.specs.Steps.{HasAbsorbed, merged, moved, leaving};
 ghost use Rattle.lg_turn.specs.Passes.{number_of, seen_by, own_of, found_by, Follows, IsAway, IsPassOf, IsSamePass, HasMovedOnce};
 
@@ -25,7 +25,7 @@ fn absorb<V: Keeps>(shared: &SharedOf<V>, seat: &mut SeatOf<V>) -> u64
     requires turn { (seat.old.table_id ≡ shared.now.table_id) × (shared.now.table_id.words ≡ 3) }
     requires two { (length seat.old.me.0.accounts ≡ 2) × (seat.old.me ≡ (view_of seat.old.me.0.accounts Idle, [])) }
     ensures same { (seat.new.table_id ≡ seat.old.table_id) × (seat.new.id ≡ seat.old.id) }
-    ensures absorbed { HasAbsorbed seat.old.me result seat.new.me }
+    ensures absorbed { HasAbsorbed V.number seat.old.me result seat.new.me }
 {
     shared.fetch_sub::<Absorb>(seat, ROLL, 1)
 }
@@ -41,6 +41,7 @@ fn merge<V: Keeps>(shared: &SharedOf<V>, seat: &mut SeatOf<V>, other: SeatOf<V>)
     ensures others { BeginsWith (seen_in seat.new.me.0.accounts) (seen_in other.me.0.accounts) }
     ensures follows { MayFollow seat.old.me.0.accounts result × MayFollow other.me.0.accounts result }
     ensures drawn { number_in other.me.0.accounts < drawn_in result }
+    ensures own { of_pass V.number (number_in seat.new.me.0.accounts) (seen_in seat.new.me.0.accounts) ≡ own_in seat.new.me.0.accounts }
 {
     take_in(shared, seat, other);
     absorb(shared, seat)

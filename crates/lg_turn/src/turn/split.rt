@@ -20,7 +20,7 @@ fn enrol<V: Keeps>(shared: &SharedOf<V>, seat: &mut SeatOf<V>) -> u64
     requires turn { (seat.old.table_id ≡ shared.now.table_id) × (shared.now.table_id.words ≡ 3) }
     requires away { (0 < length seat.old.me.0.accounts) × (seat.old.me ≡ (view_of seat.old.me.0.accounts Idle, [])) }
     ensures same { (seat.new.table_id ≡ seat.old.table_id) × (seat.new.id ≡ seat.old.id) }
-    ensures enrolled { HasEnrolled seat.old.me result seat.new.me }
+    ensures enrolled { HasEnrolled V.number seat.old.me result seat.new.me }
 {
     shared.fetch_add::<Enrol>(seat, ROLL, ONE_MORE)
 }
