@@ -17,7 +17,7 @@ use Rattle.lg_turn.specs.declared.view.Stage.{Stage}
 use Rattle.lg_turn.specs.declared.view.Stage.TheVariants.{Idle, Waits, Holds, Enrols, Undoes, Alone}
 use Rattle.lg_turn.specs.Views.{view_of, number_in, seen_in, drawn_in, out_in, of_pass, Precedes, MayFollow}
 use Rattle.lg_turn.specs.Rule.{passes_of, with_number, low_of, out_of, undone_of, values_of, tickets_of, with_ticket, ticket_count, same_ticket, value_count, place_count, out_count, undone_count, same_number, low_count, coming_count, made_of, times, Fits, Knows, EachFound, Told, Roll, IsKept}
-use Rattle.lg_turn.specs.Steps.{moved, drawing, Enrolls, Counts}
+use Rattle.lg_turn.specs.Steps.{moved, drawing, looking, Enrolls, Counts}
 use Rattle.lg_turn.proofs.Sums.{sum_by_set, each_set, part-le-sum_by}
 use Rattle.lg_turn.proofs.Counts.{one_if_same, none_if_other, one_low, none_low}
 use Rattle.lg_turn.proofs.Parts.{sum_stays, entered_below, lows-le-passes}
@@ -339,26 +339,26 @@ module _ {V I B : Type 0} (items : V → List I) (number : I → ℕ) (base : V 
       counts_alone : out_in found ≡ 1
           → (w : View I B) × (a : Act (Option V)) × Valid s.homes [] a × Rule (stepped s 2 found id [] w a) × Counts (step slots 2 0 0 none) (view_of accounts Idle, []) found (w, carried_after [] a)
       counts_alone h = (
-        view_of (map (moved (found, found)) accounts) Alone,
+        view_of (map (moved (looking found)) accounts) Alone,
         keeps,
         tt,
-        rolled s k id accounts (map (moved (found, found)) accounts) Idle Alone at refl (λ t. refl) refl
-            record { fits = fits s k id accounts at some_pass found found_is (found, found); stands = omega (arith, wide s k id accounts at some_pass found found_is (found, found), some_pass) }
-            [] k.made k.next found (roll_alone s k id accounts at some_pass found found_is (found, found) (λ P p q. (p, q)) h),
-        ((λ _. refl), (λ l. absurd (l h)), follows s k id accounts at some_pass found found_is (found, found)),
+        rolled s k id accounts (map (moved (looking found)) accounts) Idle Alone at refl (λ t. refl) refl
+            record { fits = fits s k id accounts at some_pass found found_is (looking found); stands = omega (arith, wide s k id accounts at some_pass found found_is (looking found), some_pass) }
+            [] k.made k.next found (roll_alone s k id accounts at some_pass found found_is (looking found) (λ P p q. (p, q)) h),
+        ((λ _. refl), (λ l. absurd (l h)), follows s k id accounts at some_pass found found_is (looking found)),
       )
 
       counts_others : out_in found ≢ 1
           → (w : View I B) × (a : Act (Option V)) × Valid s.homes [] a × Rule (stepped s 2 found id [] w a) × Counts (step slots 2 0 0 none) (view_of accounts Idle, []) found (w, carried_after [] a)
       counts_others h =
           let part = part-le-sum_by out_of s.views id (view_of accounts Idle) at in
-          let out_is' = out_is s k id accounts at some_pass found found_is (found, found) in (
-            view_of (map (moved (found, found)) accounts) Idle,
+          let out_is' = out_is s k id accounts at some_pass found found_is (looking found) in (
+            view_of (map (moved (looking found)) accounts) Idle,
             keeps,
             tt,
-            rolled s k id accounts (map (moved (found, found)) accounts) Idle Idle at refl (λ t. refl) refl record { fits = fits s k id accounts at some_pass found found_is (found, found); stands = tt }
-                [] k.made k.next found (roll_others s k id accounts at some_pass found found_is (found, found) (λ P p q. (p, q))),
-            ((λ l. absurd (h l)), (λ _. (refl, omega (arith, part, out_is', some_pass, h))), follows s k id accounts at some_pass found found_is (found, found)),
+            rolled s k id accounts (map (moved (looking found)) accounts) Idle Idle at refl (λ t. refl) refl record { fits = fits s k id accounts at some_pass found found_is (looking found); stands = tt }
+                [] k.made k.next found (roll_others s k id accounts at some_pass found found_is (looking found) (λ P p q. (p, q))),
+            ((λ l. absurd (h l)), (λ _. (refl, omega (arith, part, out_is', some_pass, h))), follows s k id accounts at some_pass found found_is (looking found)),
           )
 
     pub enrols : (slots id : ℕ) (accounts : List (Account I B)) → 0 < length accounts → Allows Rule slots id (view_of accounts Idle, []) 2 (λ n. (n + 4294967297) % 2 ^ 64) (Enrolls number (step slots 2 4294967297 0 none) (view_of accounts Idle, []))

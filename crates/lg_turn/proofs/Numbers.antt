@@ -1,5 +1,5 @@
 -- What the roll says of passes and of their numbers.
-use Rattle.std.proofs.Common.{◌≡◌, ℕ, ◌+◌, ◌*◌, ◌<◌, ◌≤◌, List, length, get_or, arith, ap, ◌∙◌, Option}
+use Rattle.std.proofs.Common.{◌≡◌, ℕ, ◌+◌, ◌*◌, ◌<◌, ◌≤◌, List, [], ◌∷◌, ◌≢◌, length, refl, get_or, arith, ap, ◌∙◌, Option}
 use mathlib.Core.Option.{some}
 use mathlib.Core.Logic.{dite}
 use native.Mathlib.Decide.{ℕ_discrete, dec_lt}
@@ -7,9 +7,12 @@ use lib.ListN.{get_elem?}
 use Rattle.std.specs.List.{sum_by, All}
 use Rattle.std.proofs.lemmas.List.Elements.{All-weaker}
 use Rattle.atomic_table.specs.Table.{State}
+use Rattle.lg_turn.specs.declared.view.Account.{Account}
 use Rattle.lg_turn.specs.declared.view.View.{View}
+use Rattle.lg_turn.specs.declared.view.Stage.{Stage}
+use Rattle.lg_turn.specs.declared.view.Stage.TheVariants.{Idle, Waits, Holds, Enrols, Undoes, Alone}
 use Rattle.lg_turn.specs.Views.{drawn_in, out_in}
-use Rattle.lg_turn.specs.Rule.{passes_of, with_number, out_of, undone_of, IsKept}
+use Rattle.lg_turn.specs.Rule.{passes_of, place_count, with_number, out_of, undone_of, Stands, IsKept}
 use Rattle.lg_turn.proofs.Parts.{entered_below}
 use Rattle.lg_turn.proofs.Sums.{part-le-sum_by, two_parts-le-sum_by, sum_by-le-sum_by}
 use Rattle.lg_turn.proofs.Rolls.{upper_half, lower_half, outs_few}
@@ -40,3 +43,24 @@ module _ {V I B : Type 0} (items : V → List I) (number : I → ℕ) (base : V 
 
   pub passes_few : IsKept items number base callers origin s → sum_by (λ (v : View I B). length v.accounts) s.views ≤ callers
   passes_few k = let most = k.roll.passes in omega (arith, most, sum_by-le-sum_by (λ (v : View I B). length v.accounts) (passes_of callers) s.views (λ i v e. omega arith))
+
+  empty : {X : Type 0} (xs : List X) → length xs ≡ 0 → xs ≡ []
+  empty [] h = refl
+  empty (x ∷ xs) h = absurd (omega arith)
+
+  pub no_other : (i j : ℕ) (v w : View I B) → IsKept items number base callers origin s → get_elem? s.views i ≡ some v → callers ≤ passes_of callers v → get_elem? s.views j ≡ some w → i ≢ j → w.accounts ≡ []
+  no_other i j v w k at all at' apart =
+      let two = two_parts-le-sum_by (passes_of callers) s.views i j v w apart at at' in
+      let most = k.roll.passes in
+      empty w.accounts (omega (arith, two, most, all))
+
+  lone_takes_all : (list : List I) (serving : ℕ) (accounts : List (Account I B)) (stage : Stage) → Stands items number base list serving accounts stage → stage ≡ Alone → callers ≤ length accounts + place_count callers stage
+  lone_takes_all list serving accounts Idle h e = absurd (cc)
+  lone_takes_all list serving accounts (Waits t) h e = absurd (cc)
+  lone_takes_all list serving accounts (Holds t) h e = absurd (cc)
+  lone_takes_all list serving accounts (Enrols n out) h e = absurd (cc)
+  lone_takes_all list serving accounts Undoes h e = absurd (cc)
+  lone_takes_all list serving accounts Alone h e = omega arith
+
+  pub no_other_beside : (i j : ℕ) (v w : View I B) → IsKept items number base callers origin s → get_elem? s.views i ≡ some v → v.stage ≡ Alone → get_elem? s.views j ≡ some w → i ≢ j → w.accounts ≡ []
+  no_other_beside i j v w k at lone at' apart = no_other i j v w k at (lone_takes_all k.list k.serving v.accounts v.stage (k.each_pass i v at).stands lone) at' apart

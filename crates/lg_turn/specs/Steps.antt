@@ -68,12 +68,17 @@ module _ {I B : Type 0} where
   absorbed [] = []
   absorbed (b ∷ rest) = merged rest (b ∷ [])
 
--- the move that draws a number for a pass to come, and the one that takes a pass out of the roll
+-- the moves on the roll, each with the word that it found and the one that it left: a number is drawn for a pass to come
 abbrev pub drawing : ℕ → ℕ × ℕ
 drawing found = (found, found + 4294967297)
 
+-- a pass is taken out
 abbrev pub leaving : ℕ → ℕ × ℕ
 leaving found = (found, found - 1)
+
+-- nothing changes
+abbrev pub looking : ℕ → ℕ × ℕ
+looking found = (found, found)
 
 module _ {V I B : Type 0} where
   -- a ticket was drawn, of which these are the lower bits
@@ -95,8 +100,8 @@ module _ {V I B : Type 0} where
   -- one pass is out, which is this one, or more
   abbrev pub HasCounted : Me (Option V) (View I B) → ℕ → Me (Option V) (View I B) → Type 0
   HasCounted me found me' =
-      (out_in found ≡ 1 → HasMoved me (found, found) Alone me')
-      × (out_in found ≢ 1 → HasMoved me (found, found) Idle me' × (1 < out_in found))
+      (out_in found ≡ 1 → HasMoved me (looking found) Alone me')
+      × (out_in found ≢ 1 → HasMoved me (looking found) Idle me' × (1 < out_in found))
       × MayFollow me.0.accounts found
 
   abbrev pub Counts : Step (Option V) → Me (Option V) (View I B) → ℕ → Me (Option V) (View I B) → Type 0

@@ -3,7 +3,7 @@ ghost use Rattle.std.specs.Prelude.{◌≡◌, ◌<◌, ◌≤◌, [], length, f
 ghost use Rattle.lg_turn.specs.declared.view.Stage.TheVariants.{Idle, Alone};
 ghost use Rattle.lg_turn.specs.Views.{BeginsWith, of_pass, view_of, out_in};
 ghost use Rattle.lg_turn.specs.Rule.{passes_of, value_count};
-ghost use Rattle.lg_turn.specs.Steps.{HasCounted};
+ghost use Rattle.lg_turn.specs.Steps.{HasCounted, looking};
 ghost use Rattle.lg_turn.specs.Closings.{Ends};
 ghost use Rattle.lg_turn.specs.Passes.{number_of, base_of, seen_by, own_of, found_by, IsAway, IsPassOf, IsAsBefore, HasMovedOnce, accounts_of, callers_of, origin_of};
 
@@ -77,7 +77,7 @@ impl<V: Keeps> Turn<V> {
         ensures begins { IfOk result (λ value. BeginsWith (V.items value) (seen_by pass)) }
         ensures own { IfOk result (λ value. of_pass V.number (number_of pass) (V.items value) ≡ own_of pass) }
         ensures turn { IfErr result (λ back. (back.0 ≡ self) × IsPassOf self back.1) }
-        ensures same { IfErr result (λ back. IsAsBefore pass back.1 × HasMovedOnce (λ word. (word, word)) pass back.1) }
+        ensures same { IfErr result (λ back. IsAsBefore pass back.1 × HasMovedOnce looking pass back.1) }
         ensures other { IfErr result (λ back. 1 < out_in (found_by back.1)) }
     {
         let word = count(&self.table.shared, &mut pass.seat);
