@@ -15,7 +15,7 @@ use Rattle.lg_turn.specs.declared.view.Account.{Account}
 use Rattle.lg_turn.specs.declared.view.View.{View}
 use Rattle.lg_turn.specs.declared.view.Stage.TheVariants.{Idle}
 use Rattle.lg_turn.specs.Views.{BeginsWith, of_pass, account_of, view_of, number_in, seen_in, longer, drawn_in, out_in, Precedes, MayFollow}
-use Rattle.lg_turn.specs.Rule.{passes_of, with_number, made_of, low_of, out_of, undone_of, EachFound, Told, Fits, Roll, IsKept}
+use Rattle.lg_turn.specs.Rule.{passes_of, with_number, made_of, low_of, out_of, undone_of, Told, Fits, Roll, IsKept}
 use Rattle.lg_turn.specs.Steps.{leaving, Absorbs}
 use Rattle.lg_turn.proofs.Sums.{sum_by_set, part-le-sum_by}
 use Rattle.lg_turn.proofs.Counts.{one_if_same}

@@ -2,7 +2,7 @@
 use Rattle.std.proofs.Common.{subst, ◌≡◌, ◌≢◌, ℕ, ◌+◌, ◌%◌, ◌^◌, ◌<◌, ◌≤◌, List, [], ◌∷◌, ◌++◌, set, get_or, arith, ap, sym, refl, ◌∙◌, inl, ⊎_elim, Option, Some}
 use mathlib.Core.Option.{Option as Maybe, some, none}
 use mathlib.Core.Logic.{dite}
-use native.Mathlib.Decide.{ℕ_discrete, dec_lt}
+use native.Mathlib.Decide.{ℕ_discrete}
 use lib.ListN.{get_elem?}
 use Rattle.std.specs.List.{sum_by, All}
 use Rattle.std.proofs.Math.Nat.{mod-add-mod}
@@ -18,7 +18,7 @@ use Rattle.lg_turn.specs.Steps.{Advances, after_give}
 use Rattle.lg_turn.proofs.Sums.{sum_by_set, each_set, part-le-sum_by, two_parts-le-sum_by}
 use Rattle.lg_turn.proofs.Counts.{one_if_same, none_if_other}
 use Rattle.lg_turn.proofs.Told.{each_word_one}
-use Rattle.lg_turn.proofs.Parts.{sum_stays, roll_stays, roll_longer}
+use Rattle.lg_turn.proofs.Parts.{roll_stays, roll_longer}
 use Rattle.lg_turn.proofs.Entries.{numbers_other, others_fit, giver_fits, of_pass-still_none}
 
 -- after an advance the words show the next ticket that is served

@@ -12,9 +12,8 @@ use Rattle.lg_turn.specs.declared.view.Account.{Account}
 use Rattle.lg_turn.specs.declared.view.View.{View}
 use Rattle.lg_turn.specs.declared.view.Stage.{Stage}
 use Rattle.lg_turn.specs.declared.view.Stage.TheVariants.{Idle, Waits, Holds, Enrols, Undoes, Alone}
-use Rattle.lg_turn.specs.Rule.{passes_of, with_number, out_of, undone_of, low_of, low_count, place_count, made_of, times, EachFound, Told, Roll}
-use Rattle.lg_turn.specs.Steps.{spent}
-use Rattle.lg_turn.specs.Views.{out_in, drawn_in, EachWord}
+use Rattle.lg_turn.specs.Rule.{passes_of, with_number, out_of, undone_of, low_of, low_count, place_count, made_of, times, EachFound, Roll}
+use Rattle.lg_turn.specs.Views.{EachWord}
 use Rattle.lg_turn.proofs.Told.{told_same, each_found_set}
 use Rattle.lg_turn.proofs.Sums.{sum_by_set, sum_by-le-sum_by}
 

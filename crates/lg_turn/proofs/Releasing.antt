@@ -1,5 +1,5 @@
 -- A pass that takes out of the roll what it has too many there keeps the rule.
-use Rattle.std.proofs.Common.{◌≡◌, ℕ, ◌+◌, ◌-◌, ◌*◌, ◌%◌, ◌^◌, ◌<◌, ◌≤◌, List, [], set, get_or, arith, ap, sym, refl, subst, Option}
+use Rattle.std.proofs.Common.{◌≡◌, ℕ, ◌+◌, ◌-◌, ◌*◌, ◌%◌, ◌^◌, ◌≤◌, List, [], set, get_or, arith, ap, sym, refl, subst, Option}
 use mathlib.Core.Option.{some, none}
 use mathlib.Core.Logic.{dite}
 use native.Mathlib.Decide.{dec_le}
@@ -10,8 +10,8 @@ use Rattle.lg_turn.specs.declared.view.Account.{Account}
 use Rattle.lg_turn.specs.declared.view.View.{View}
 use Rattle.lg_turn.specs.declared.view.Stage.{Stage}
 use Rattle.lg_turn.specs.declared.view.Stage.TheVariants.{Idle, Waits, Holds, Enrols, Undoes, Alone}
-use Rattle.lg_turn.specs.Views.{view_of, drawn_in, out_in}
-use Rattle.lg_turn.specs.Rule.{passes_of, with_number, made_of, low_of, out_of, undone_of, ticket_count, same_ticket, value_count, out_count, undone_count, EachFound, Told, Roll, IsKept}
+use Rattle.lg_turn.specs.Views.{view_of}
+use Rattle.lg_turn.specs.Rule.{passes_of, with_number, made_of, low_of, out_of, undone_of, ticket_count, same_ticket, value_count, out_count, undone_count, Told, Roll, IsKept}
 use Rattle.lg_turn.specs.Steps.{Releases}
 use Rattle.lg_turn.proofs.Sums.{sum_by_set}
 use Rattle.lg_turn.proofs.Rolls.{outs_few, undone_few, upper_half, lower_half}

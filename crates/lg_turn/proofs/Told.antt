@@ -1,13 +1,11 @@
 -- What passes found of the roll stays true.
-use Rattle.std.proofs.Common.{◌≡◌, ℕ, zero, suc, ◌+◌, ◌-◌, ◌*◌, ◌<◌, ◌≤◌, List, [], ◌∷◌, ◌++◌, ⊎_elim, map, set, arith, sym, subst, ◌⊎◌, inl, inr, Option}
-use mathlib.Core.Option.{some, some-ne-none, some-injective}
-use lib.ListN.{get_elem?}
+use Rattle.std.proofs.Common.{◌≡◌, ℕ, zero, suc, ◌-◌, ◌<◌, ◌≤◌, List, [], ◌∷◌, ◌++◌, ⊎_elim, map, set, arith, sym, subst, ◌⊎◌, inl, inr}
+use mathlib.Core.Option.{some-ne-none, some-injective}
 use Rattle.std.specs.List.{All}
 use Rattle.std.proofs.lemmas.List.Elements.{All-nil, All-cons, All-map, All-weaker}
 use Rattle.lg_turn.specs.declared.view.Account.{Account}
 use Rattle.lg_turn.specs.declared.view.View.{View}
-use Rattle.lg_turn.specs.declared.view.Stage.{Stage}
-use Rattle.lg_turn.specs.Views.{view_of, drawn_in, out_in, gone_in, Precedes, EachWord}
+use Rattle.lg_turn.specs.Views.{drawn_in, out_in, Precedes, EachWord}
 use Rattle.lg_turn.specs.Rule.{EachFound, Told}
 use Rattle.lg_turn.specs.Steps.{moved}
 use Rattle.atomic_table.proofs.Lists.{at_snoc}

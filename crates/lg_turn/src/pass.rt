@@ -7,7 +7,9 @@ use crate::view::View;
 use atomic_table::Seat;
 
 /// The right of one caller to take the turn. A contract reads of it its number, the base of its turn, the entries that
-/// it has seen, those of them that are its own, and whether it has the turn.
+/// it has seen, those of them that are its own, its moves on the roll of passes, and whether it has the turn. At each
+/// moment its own entries are those of its number that it has seen. A pass that is dropped keeps its place among the
+/// callers, and no `close` succeeds any more; where it has the turn, nobody gets the turn any more.
 #[derive(Drop)]
 pub struct Pass<V: Keeps> {
     pub(crate) number: u32,

@@ -99,11 +99,7 @@ fn eight_threads_of_five_thousand_rounds_end(rt: HostRuntime) -> Result<(), Fail
     let all: Vec<u32> = (0..5_000).collect(rt.alloc())?;
     assert_eq!(rt; rounds.made.len(), 40_000);
     for number in 0..8 {
-        assert_eq!(rt;
-            counts_of(rt.alloc(), &rounds, number)?,
-            all,
-            "{number}"
-        );
+        assert_eq!(rt; counts_of(rt.alloc(), &rounds, number)?, all, "{number}");
     }
     Ok(())
 }

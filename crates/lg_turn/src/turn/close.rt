@@ -69,7 +69,8 @@ impl<V: Keeps> Turn<V> {
     /// Ends the turn where this pass alone is out, and answers the value. The list for which the value stands begins
     /// with what the pass has seen, and those of its entries that have the number of the pass are its own. Where the
     /// call finds another pass out, and there alone, the turn and the pass come back, and the pass is as before, but
-    /// that it has asked once more. It takes no memory, and waits for nobody.
+    /// for its look at the roll, which comes behind all that it had found or left there. A pass that was dropped is out
+    /// for good. It takes no memory, and waits for nobody.
     pub fn close(self, mut pass: Pass<V>) -> Result<V, (Turn<V>, Pass<V>)>
         requires turn { IsPassOf self pass }
         requires away { IsAway pass }

@@ -49,8 +49,9 @@ fn merge<V: Keeps>(shared: &SharedOf<V>, seat: &mut SeatOf<V>, other: SeatOf<V>)
 
 impl<V: Keeps> Turn<V> {
     /// Takes the other pass into this one, which keeps its number and its own entries, and has then seen the longer of
-    /// what both have seen, which begins with what each of them had. The entries of the other pass stay in the list,
-    /// and its number is not used again. It takes no memory, and waits for nobody.
+    /// what both have seen, which begins with what each of them had. The entries of the other pass stay in the list.
+    /// What the call finds in the roll comes behind all that both had found or left there, and the other's number was
+    /// drawn before it: it is not drawn again. It takes no memory, and waits for nobody.
     pub fn join(&self, pass: &mut Pass<V>, other: Pass<V>)
         requires turn { IsPassOf self.now pass.old × IsPassOf self.now other }
         requires away { IsAway pass.old × IsAway other }

@@ -48,12 +48,12 @@ fn part<V: Keeps>(shared: &SharedOf<V>, seat: &mut SeatOf<V>, number: u64, out: 
 }
 
 impl<V: Keeps> Turn<V> {
-    /// Makes a second pass of one. The second has the number that the call drew, which no pass had before, has seen what
-    /// the first has, and has made nothing; the first stays as it is, but that it has asked once more. The call reads
-    /// in the roll how many numbers were drawn before it, and how many passes were out, where a split that is under
-    /// way counts for one more. It answers `Spent` exactly where it finds 4,294,967,168 numbers or more, and else
-    /// `Many` exactly where it finds as many passes as there are callers, or more. It takes no memory, and waits for
-    /// nobody.
+    /// Makes a second pass of one. The second has the number that the call drew, which no pass had before, has seen and
+    /// found what the first has, and has made nothing; the first stays as it is, but for its move on the roll. The call
+    /// finds in the roll how many numbers were drawn before it, and how many passes are out, where a split that is
+    /// under way counts for one more; this comes behind all that the pass had found or left there. It answers `Spent`
+    /// exactly where it finds 4,294,967,168 numbers or more, and else `Many` exactly where it finds as many passes as
+    /// there are callers, or more; then the number was drawn in vain. It takes no memory, and waits for nobody.
     pub fn split(&self, pass: &mut Pass<V>) -> Result<Pass<V>, TurnFault>
         requires turn { IsPassOf self.now pass.old }
         requires away { IsAway pass.old }
