@@ -8,15 +8,15 @@ use Rattle.std.specs.Prelude.{◌==◌, nat_lt, if◌then◌else◌}
 use Rattle.std.specs.List.{sum_by, All}
 use Rattle.std.proofs.lemmas.Bool.{lt-ltb, le-ltb}
 use Rattle.std.proofs.lemmas.List.{append-nil}
-use Rattle.std.proofs.lemmas.List.Sums.{sum_by-cons}
-use Rattle.std.proofs.lemmas.List.Elements.{All-nil, All-cons, All-head, All-tail}
+use Rattle.std.proofs.lemmas.List.Sums.{sum_by-cons, sum_by-append}
+use Rattle.std.proofs.lemmas.List.Elements.{All-append, All-nil, All-cons, All-head, All-tail}
 use Rattle.atomic_table.specs.Table.{State, Act, Me, step, keeps, stepped, carried_after, Valid, Allows}
 use Rattle.lg_turn.specs.declared.view.Account.{Account}
 use Rattle.lg_turn.specs.declared.view.View.{View}
 use Rattle.lg_turn.specs.declared.view.Stage.TheVariants.{Idle}
-use Rattle.lg_turn.specs.Views.{BeginsWith, of_pass, account_of, view_of, number_in, seen_in, longer, drawn_in, out_in, Precedes, MayFollow}
-use Rattle.lg_turn.specs.Rule.{passes_of, with_number, made_of, low_of, out_of, undone_of, Told, Fits, Roll, IsKept}
-use Rattle.lg_turn.specs.Steps.{leaving, Absorbs}
+use Rattle.lg_turn.specs.Views.{leaving, draws_in, BeginsWith, of_pass, account_of, view_of, number_in, seen_in, longer, drawn_in, out_in, Precedes, MayFollow}
+use Rattle.lg_turn.specs.Rule.{passes_of, with_number, made_of, draws_of, low_of, out_of, undone_of, Told, Fits, Roll, IsKept}
+use Rattle.lg_turn.specs.Steps.{Absorbs}
 use Rattle.lg_turn.proofs.Sums.{sum_by_set, part-le-sum_by}
 use Rattle.lg_turn.proofs.Counts.{one_if_same}
 use Rattle.lg_turn.proofs.Entries.{of_pass-between}
@@ -56,7 +56,7 @@ module _ {V I B : Type 0} (items : V → List I) (number : I → ℕ) (base : V 
     v = view_of (b ∷ a ∷ []) Idle
 
     abbrev one_pass : Account I B
-    one_pass = account_of a.number a.base (longer a.seen b.seen) a.own (leaving k.word ∷ a.moves)
+    one_pass = account_of a.number a.base (longer a.seen b.seen) a.own (leaving k.word ∷ (a.moves ++ b.moves))
 
     abbrev w : View I B
     w = view_of (one_pass ∷ []) Idle
@@ -81,6 +81,13 @@ module _ {V I B : Type 0} (items : V → List I) (number : I → ℕ) (base : V 
         let one : Account I B → ℕ = λ c. if c.number == n then 1 else 0 in
         let m = sum_by_set (made_of callers n) s.views id v w at in
         omega (arith, m, sum_by-cons one b (a ∷ []), sum_by-cons one a [], sum_by-cons one one_pass [])
+
+    draws_moved : sum_by draws_of s.views ≤ sum_by draws_of (set s.views id w)
+    draws_moved =
+        let draws : Account I B → ℕ = λ c. draws_in c.moves in
+        let draw : ℕ × ℕ → ℕ = λ m. if nat_lt (drawn_in m.0) (drawn_in m.1) then 1 else 0 in
+        let m = sum_by_set draws_of s.views id v w at in
+        omega (arith, m, sum_by-cons draws b (a ∷ []), sum_by-cons draws a [], sum_by-cons draws one_pass [], sum_by-cons draw (leaving k.word) (a.moves ++ b.moves), sum_by-append draw a.moves b.moves)
 
     low_moved : sum_by (low_of callers) (set s.views id w) ≤ sum_by (low_of callers) s.views
     low_moved =
@@ -132,13 +139,15 @@ module _ {V I B : Type 0} (items : V → List I) (number : I → ℕ) (base : V 
         (precedes_by k.word (k.word - 1) numbers_now O numbers_now (O - 1) up low up' low' (λ h. omega arith) (omega (arith, fewer, out_moved)))
         (λ P h p q. let M : Account I B → Type 0 = λ c. All (λ (m : ℕ × ℕ). P m.0 × P m.1) c.moves in
         each_found_set P s.views id w h
-        (each_word_one P one_pass (All-cons (λ (m : ℕ × ℕ). P m.0 × P m.1) (leaving k.word) a.moves (p, q) (All-head M a [] (All-tail M b (a ∷ []) (h id v at))))))
+        (each_word_one P one_pass (All-cons (λ (m : ℕ × ℕ). P m.0 × P m.1) (leaving k.word) (a.moves ++ b.moves) (p, q)
+        (All-append (λ (m : ℕ × ℕ). P m.0 × P m.1) a.moves b.moves (All-head M a [] (All-tail M b (a ∷ []) (h id v at))) (All-head M b (a ∷ []) (h id v at))))))
 
     roll_absorbed : Roll items number base callers k.list k.made k.next (k.word - 1) (set s.views id w)
     roll_absorbed =
         let r = k.roll in record {
           counted = omega (arith, r.counted, out_moved, undone_moved);
           fewer = (let fewer = r.fewer in omega (arith, fewer, out_moved, undone_moved));
+          drawn = (let d = r.drawn in omega (arith, d, draws_moved));
           told = told_absorbed;
           small = r.small;
           spent = λ h. r.spent (omega (arith, h, undone_moved));
@@ -176,7 +185,7 @@ module _ {V I B : Type 0} (items : V → List I) (number : I → ℕ) (base : V 
       let found_is : get_or s.words 2 0 ≡ k.word = ap (λ (l : List ℕ). get_or l 2 0) k.words in
       let begin = both_begin s k id b a at in
       let P : Account I B → Type 0 = λ c. BeginsWith (longer a.seen b.seen) c.seen × (c.number < drawn_in k.word) in
-      let w : View I B = view_of (account_of a.number a.base (longer a.seen b.seen) a.own (leaving k.word ∷ a.moves) ∷ []) Idle in
+      let w : View I B = view_of (account_of a.number a.base (longer a.seen b.seen) a.own (leaving k.word ∷ (a.moves ++ b.moves)) ∷ []) Idle in
       let both : All P (b ∷ a ∷ []) = All-cons P b (a ∷ []) (begin.2, numbers_below s k id b a at b.number (omega (arith, one_if_same b.number b.number refl))) (All-cons P a [] (begin.1, numbers_below s k id b a at a.number (omega (arith, one_if_same a.number a.number refl))) (All-nil P)) in
       subst (λ (n : ℕ). (u : View I B) × (c : Act (Option V)) × Valid s.homes [] c × Rule (stepped s 2 ((n + (2 ^ 64 - 1)) % 2 ^ 64) id [] u c) × Absorbs number (step slots 2 1 0 none) (view_of (b ∷ a ∷ []) Idle, []) n (u, carried_after [] c)) (sym found_is)
       (w, keeps, tt, absorbed_kept s k id b a at, (refl, both, follows s k id b a at, own_after s k id b a at))

@@ -15,13 +15,13 @@ use Rattle.lg_turn.specs.declared.view.Account.{Account}
 use Rattle.lg_turn.specs.declared.view.View.{View}
 use Rattle.lg_turn.specs.declared.view.Stage.{Stage}
 use Rattle.lg_turn.specs.declared.view.Stage.TheVariants.{Idle, Waits, Holds, Enrols, Undoes, Alone}
-use Rattle.lg_turn.specs.Views.{view_of, number_in, seen_in, drawn_in, out_in, of_pass, Precedes, MayFollow}
-use Rattle.lg_turn.specs.Rule.{passes_of, with_number, low_of, out_of, undone_of, values_of, tickets_of, with_ticket, ticket_count, same_ticket, value_count, place_count, out_count, undone_count, same_number, low_count, coming_count, made_of, times, Fits, Knows, Told, Roll, IsKept}
-use Rattle.lg_turn.specs.Steps.{moved, drawing, looking, Enrolls, Counts}
+use Rattle.lg_turn.specs.Views.{drawing, looking, view_of, number_in, seen_in, drawn_in, out_in, of_pass, Precedes, MayFollow}
+use Rattle.lg_turn.specs.Rule.{passes_of, with_number, low_of, out_of, undone_of, values_of, tickets_of, with_ticket, ticket_count, same_ticket, value_count, place_count, out_count, undone_count, same_number, low_count, coming_count, made_of, draws_of, times, Fits, Knows, Told, Roll, IsKept}
+use Rattle.lg_turn.specs.Steps.{moved, Enrolls, Counts}
 use Rattle.lg_turn.proofs.Sums.{sum_by_set, each_set, part-le-sum_by}
 use Rattle.lg_turn.proofs.Counts.{one_if_same, none_if_other, one_low, none_low}
 use Rattle.lg_turn.proofs.Parts.{sum_stays, entered_below, lows-le-passes}
-use Rattle.lg_turn.proofs.Accounts.{numbers_map, lows_map}
+use Rattle.lg_turn.proofs.Accounts.{numbers_map, lows_map, draws-le-moved, draws-lt-moved}
 use Rattle.lg_turn.proofs.Entries.{of_pass-undrawn, of_pass-none_before}
 use Rattle.lg_turn.proofs.Told.{told_on, precedes_by, each_found_set, each_word_moved, each_word_weaker}
 use Rattle.lg_turn.proofs.Rolls.{upper_half, lower_half, outs_few, undone_few, places-le-out}
@@ -146,6 +146,12 @@ module _ {V I B : Type 0} (items : V → List I) (number : I → ℕ) (base : V 
       given_moved : (stage : Stage) (n : ℕ) → sum_by (made_of callers n) (set s.views id (at_stage stage)) ≡ sum_by (made_of callers n) s.views + coming_count callers n stage
       given_moved stage n = let m = sum_by_set (made_of callers n) s.views id v (at_stage stage) at in omega (arith, m, numbers_map (moved move) (λ a. refl) n accounts)
 
+      draws_moved : (stage : Stage) → sum_by draws_of s.views ≤ sum_by draws_of (set s.views id (at_stage stage))
+      draws_moved stage = let m = sum_by_set draws_of s.views id v (at_stage stage) at in omega (arith, m, draws-le-moved move accounts)
+
+      draws_drawn : drawn_in move.0 < drawn_in move.1 → (stage : Stage) → sum_by draws_of s.views + 1 ≤ sum_by draws_of (set s.views id (at_stage stage))
+      draws_drawn later stage = let m = sum_by_set draws_of s.views id v (at_stage stage) at in omega (arith, m, draws-lt-moved move accounts some_pass later)
+
       fits : All (Fits items number base origin k.list) (map (moved move) accounts)
       fits = fits_moved origin k.list move accounts (k.each_pass id v at).fits
 
@@ -184,6 +190,7 @@ module _ {V I B : Type 0} (items : V → List I) (number : I → ℕ) (base : V 
           let all_drawn : k.next ≡ 4294967168 = dite (dec_le U 0) (λ z. omega (arith, z, h, drawn_is, small)) (λ z. r.spent (omega (arith, z))) in record {
             counted = omega (arith, r.counted, found_is, undone_moved Undoes, out_moved Undoes);
             fewer = (let fewer = r.fewer in omega (arith, fewer, undone_moved Undoes, out_moved Undoes));
+            drawn = (let d = r.drawn in let more = draws_moved Undoes in omega (arith, d, more));
             told = told_drawn both Undoes;
             small = small;
             spent = λ _. all_drawn;
@@ -224,13 +231,14 @@ module _ {V I B : Type 0} (items : V → List I) (number : I → ℕ) (base : V 
       next_above : (n : ℕ) → times n k.made ≡ 1 → n < k.next
       next_above n one = dite (dec_lt n k.next) (λ h. h) (λ h. let none_there = (k.roll.given n).2 (omega (arith, h)) in absurd (omega (arith, one, none_there)))
 
-      roll_enrols : ((P : ℕ → Type 0) → P found → P (found + 4294967297) → P move.0 × P move.1) → drawn_in found < 4294967168 → Roll items number base callers k.list made_after (k.next + 1) (found + 4294967297) (set s.views id (at_stage new_stage))
-      roll_enrols both h =
+      roll_enrols : ((P : ℕ → Type 0) → P found → P (found + 4294967297) → P move.0 × P move.1) → drawn_in move.0 < drawn_in move.1 → drawn_in found < 4294967168 → Roll items number base callers k.list made_after (k.next + 1) (found + 4294967297) (set s.views id (at_stage new_stage))
+      roll_enrols both later h =
           let r = k.roll in
           let z = none_undone h in
           let m = next_is h in record {
             counted = omega (arith, r.counted, found_is, undone_moved new_stage, out_moved new_stage);
             fewer = (let fewer = r.fewer in omega (arith, fewer, undone_moved new_stage, out_moved new_stage));
+            drawn = (let d = r.drawn in let more = draws_drawn later new_stage in omega (arith, d, more));
             told = told_drawn both new_stage;
             small = omega (arith, h, m);
             spent = λ l. absurd (omega (arith, l, z, undone_moved new_stage));
@@ -280,6 +288,7 @@ module _ {V I B : Type 0} (items : V → List I) (number : I → ℕ) (base : V 
           let most = r.passes in record {
             counted = omega (arith, r.counted, found_is, undone_moved Alone, out_moved Alone);
             fewer = (let fewer = r.fewer in omega (arith, fewer, undone_moved Alone, out_moved Alone));
+            drawn = (let d = r.drawn in let more = draws_moved Alone in omega (arith, d, more));
             told = told_found both Alone;
             small = r.small;
             spent = λ l. r.spent (omega (arith, l, undone_moved Alone));
@@ -295,6 +304,7 @@ module _ {V I B : Type 0} (items : V → List I) (number : I → ℕ) (base : V 
           let r = k.roll in record {
             counted = omega (arith, r.counted, found_is, undone_moved Idle, out_moved Idle);
             fewer = (let fewer = r.fewer in omega (arith, fewer, undone_moved Idle, out_moved Idle));
+            drawn = (let d = r.drawn in let more = draws_moved Idle in omega (arith, d, more));
             told = told_found both Idle;
             small = r.small;
             spent = λ l. r.spent (omega (arith, l, undone_moved Idle));
@@ -332,7 +342,7 @@ module _ {V I B : Type 0} (items : V → List I) (number : I → ℕ) (base : V 
             subst (λ (n : ℕ). Rule (stepped s 2 n id [] w keeps)) (sym (word_more s k id accounts at some_pass found found_is (drawing found)))
                 (rolled s k id accounts (map (moved (drawing found)) accounts) Idle stage at refl (λ t. refl) refl
                 record { fits = fits s k id accounts at some_pass found found_is (drawing found); stands = (omega (arith, wide s k id accounts at some_pass found found_is (drawing found), some_pass), none_entered) }
-                [] (made_after s k id accounts at some_pass found found_is (drawing found)) (k.next + 1) (found + 4294967297) (roll_enrols s k id accounts at some_pass found found_is (drawing found) (λ P p q. (p, q)) h)),
+                [] (made_after s k id accounts at some_pass found found_is (drawing found)) (k.next + 1) (found + 4294967297) (roll_enrols s k id accounts at some_pass found found_is (drawing found) (λ P p q. (p, q)) (omega arith) h)),
             ((λ l. absurd (omega (arith, l, h))), (λ _. (refl, below s k id accounts at some_pass found found_is (drawing found) h, none_seen (drawn_in found) k.list origin accounts some_pass (k.each_pass id (view_of accounts Idle) at).fits none_entered)), follows s k id accounts at some_pass found found_is (drawing found)),
           )
 

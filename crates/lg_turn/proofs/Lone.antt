@@ -5,9 +5,9 @@ use Rattle.std.proofs.lemmas.List.Elements.{All-head}
 use Rattle.atomic_table.specs.Table.{Me}
 use Rattle.lg_turn.specs.declared.view.View.{View}
 use Rattle.lg_turn.specs.declared.view.Stage.TheVariants.{Alone}
-use Rattle.lg_turn.specs.Views.{BeginsWith, of_pass, number_in, seen_in, own_in}
+use Rattle.lg_turn.specs.Views.{looking, BeginsWith, of_pass, number_in, seen_in, own_in}
 use Rattle.lg_turn.specs.Rule.{Fits}
-use Rattle.lg_turn.specs.Steps.{moved, looking, HasMoved}
+use Rattle.lg_turn.specs.Steps.{moved, HasMoved}
 use Rattle.lg_turn.specs.Closings.{Ends}
 use Rattle.lg_turn.proofs.One.{only_account}
 

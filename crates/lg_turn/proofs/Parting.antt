@@ -9,8 +9,8 @@ use Rattle.atomic_table.proofs.Lists.{at_snoc}
 use Rattle.lg_turn.specs.declared.view.Account.{Account}
 use Rattle.lg_turn.specs.declared.view.View.{View}
 use Rattle.lg_turn.specs.declared.view.Stage.TheVariants.{Idle, Enrols}
-use Rattle.lg_turn.specs.Views.{account_of, view_of}
-use Rattle.lg_turn.specs.Rule.{passes_of, with_number, out_of, undone_of, low_of, made_of, values_of, tickets_of, with_ticket, Fits, Knows, IsKept}
+use Rattle.lg_turn.specs.Views.{account_of, view_of, draws_in}
+use Rattle.lg_turn.specs.Rule.{passes_of, with_number, out_of, undone_of, low_of, made_of, draws_of, values_of, tickets_of, with_ticket, Fits, Knows, IsKept}
 use Rattle.lg_turn.specs.Steps.{kept, enrolled}
 use Rattle.lg_turn.proofs.Sums.{sum_by_set, each_set}
 use Rattle.lg_turn.proofs.Counts.{one_low}
@@ -31,7 +31,7 @@ module _ {V I B : Type 0} (items : V → List I) (number : I → ℕ) (base : V 
   parts id n out a rest room s k at =
       let v = view_of (a ∷ rest) (Enrols n out) in
       let l = view_of (a ∷ rest) Idle in
-      let new = account_of n a.base a.seen [] a.moves in
+      let new = account_of n a.base a.seen [] [] in
       let r = view_of (new ∷ []) Idle in
       let P : View I B → Type 0 = Knows items number base origin k.list k.serving in
       let F : Account I B → Type 0 = Fits items number base origin k.list in
@@ -52,9 +52,10 @@ module _ {V I B : Type 0} (items : V → List I) (number : I → ℕ) (base : V 
       let low_same : (b c : Bool) → cond c 1 0 ≡ 1 → cond b 1 0 ≡ cond b (cond c 1 0) 0 = λ b c e. ap (λ (m : ℕ). cond b m 0) (sym e) in
       omega (arith, same (low_of callers) (omega (arith, sum_by-cons one new [], low_same (nat_lt n callers) (nat_lt out callers) place))))
       (λ Q h. let M : Account I B → Type 0 = λ b. All (λ (m : ℕ × ℕ). Q m.0 × Q m.1) b.moves in
-      each_found_push Q (set s.views id l) r (each_found_set Q s.views id l h (h id v at)) (each_word_one Q new (All-head M a rest (h id v at))))
+      each_found_push Q (set s.views id l) r (each_found_set Q s.views id l h (h id v at)) (each_word_one Q new (All-nil (λ (m : ℕ × ℕ). Q m.0 × Q m.1))))
       (λ m. let one : Account I B → ℕ = λ b. if b.number == m then 1 else 0 in
       omega (arith, same (made_of callers m) (omega (arith, sum_by-cons one new [], given_room (n == m) (nat_lt out callers) place))))
+      (omega (arith, same draws_of (omega (arith, sum_by-cons (λ (b : Account I B). draws_in b.moves) new []))))
       (same values_of refl)
       (same tickets_of refl)
       (λ t. same (with_ticket t) refl)

@@ -11,7 +11,7 @@ use Rattle.lg_turn.specs.declared.view.View.{View}
 use Rattle.lg_turn.specs.declared.view.Stage.{Stage}
 use Rattle.lg_turn.specs.declared.view.Stage.TheVariants.{Idle, Waits, Holds, Enrols, Undoes, Alone}
 use Rattle.lg_turn.specs.Views.{view_of}
-use Rattle.lg_turn.specs.Rule.{passes_of, with_number, made_of, low_of, out_of, undone_of, ticket_count, same_ticket, value_count, out_count, undone_count, Told, Roll, IsKept}
+use Rattle.lg_turn.specs.Rule.{passes_of, with_number, made_of, draws_of, low_of, out_of, undone_of, ticket_count, same_ticket, value_count, out_count, undone_count, Told, Roll, IsKept}
 use Rattle.lg_turn.specs.Steps.{Releases}
 use Rattle.lg_turn.proofs.Sums.{sum_by_set}
 use Rattle.lg_turn.proofs.Rolls.{outs_few, undone_few, upper_half, lower_half}
@@ -98,6 +98,7 @@ module _ {V I B : Type 0} (items : V → List I) (number : I → ℕ) (base : V 
         let r = k.roll in record {
           counted = omega (arith, r.counted, out_moved, undone_moved, is);
           fewer = (let fewer = r.fewer in let one = undone-le-one stage in omega (arith, fewer, out_moved, undone_moved, one));
+          drawn = (let d = r.drawn in let m = sum_by_set draws_of s.views id v w at in omega (arith, d, m));
           told = told_released;
           small = r.small;
           spent = λ h. r.spent (omega (arith, h, undone_moved));

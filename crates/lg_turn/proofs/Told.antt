@@ -59,12 +59,15 @@ module _ {I B : Type 0} where
   pub each_word_one : (P : ℕ → Type 0) (a : Account I B) → All (λ (m : ℕ × ℕ). P m.0 × P m.1) a.moves → EachWord P (a ∷ [])
   each_word_one P a q = let Q : Account I B → Type 0 = λ a. All (λ (m : ℕ × ℕ). P m.0 × P m.1) a.moves in All-cons Q a [] q (All-nil Q)
 
-  -- nothing was found
-  pub told_at_first : (word : ℕ) (v : View I B) → ((P : ℕ → Type 0) → EachWord P v.accounts) → Told word (v ∷ [])
-  told_at_first word v nothing = record {
-    behind = each_found_first (λ earlier. (out_in earlier ≤ drawn_in earlier) × Precedes earlier word) v (nothing (λ earlier. (out_in earlier ≤ drawn_in earlier) × Precedes earlier word));
-    ordered = each_found_first (λ one. EachFound (λ other. Precedes one other ⊎ Precedes other one) (v ∷ [])) v (nothing (λ one. EachFound (λ other. Precedes one other ⊎ Precedes other one) (v ∷ [])));
-  }
+  -- where one seat is there
+  pub told_at_first : (word : ℕ) (v : View I B) → EachWord (λ earlier. (out_in earlier ≤ drawn_in earlier) × Precedes earlier word) v.accounts
+      → EachWord (λ one. EachWord (λ other. Precedes one other ⊎ Precedes other one) v.accounts) v.accounts → Told word (v ∷ [])
+  told_at_first word v before order =
+      let In : ℕ → ℕ → Type 0 = λ one other. Precedes one other ⊎ Precedes other one in record {
+        behind = each_found_first (λ earlier. (out_in earlier ≤ drawn_in earlier) × Precedes earlier word) v before;
+        ordered = each_found_first (λ one. EachFound (In one) (v ∷ [])) v
+            (each_word_weaker (λ one. EachWord (In one) v.accounts) (λ one. EachFound (In one) (v ∷ [])) (λ one h. each_found_first (In one) v h) v.accounts order);
+      }
 
   -- nothing else was found of the roll
   pub told_same : (word : ℕ) (views views' : List (View I B)) → Told word views → ((P : ℕ → Type 0) → EachFound P views → EachFound P views') → Told word views'

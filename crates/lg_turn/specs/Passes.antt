@@ -1,5 +1,5 @@
 -- What a contract says of a pass and of its turn. This project's own.
-use Rattle.std.specs.Prelude.{◌≡◌, ℕ, ◌≤◌, nat_le, if◌then◌else◌, None, List, [], ◌∷◌, ◌++◌, length, All, Option, Some}
+use Rattle.std.specs.Prelude.{◌≡◌, ℕ, ◌*◌, ◌≤◌, nat_le, if◌then◌else◌, None, List, [], ◌∷◌, ◌++◌, length, All, Option, Some}
 use Rattle.lg_turn.specs.declared.keeps.Keeps.{Ghosts}
 use Rattle.lg_turn.specs.declared.pass.Pass.{Pass}
 use Rattle.lg_turn.specs.declared.turn.Turn.{Turn}
@@ -7,7 +7,7 @@ use Rattle.lg_turn.specs.declared.view.Account.{Account}
 use Rattle.lg_turn.specs.declared.view.Stage.TheVariants.{Idle, Holds}
 use Rattle.lg_turn.specs.declared.fault.TurnFault.{TurnFault}
 use Rattle.lg_turn.specs.declared.fault.TurnFault.TheVariants.{Many, Spent}
-use Rattle.lg_turn.specs.Views.{base_in, seen_in, own_in, moves_in, MayFollow, drawn_in, out_in}
+use Rattle.lg_turn.specs.Views.{drawing, base_in, seen_in, own_in, moves_in, MayFollow, drawn_in, out_in}
 
 -- what a split answers that finds this word of the roll: first whether any number is left, and then whether any place is
 abbrev pub fault_at : ℕ → ℕ → Option TurnFault
@@ -72,13 +72,13 @@ module _ {V I B : Type 0} {G : Ghosts V I B} where
   abbrev pub HasMovedOnce : (ℕ → ℕ × ℕ) → Pass V I B G → Pass V I B G → Type 0
   HasMovedOnce move old new = (moves_by new ≡ move (found_by new) ∷ moves_by old) × Follows (found_by new) old
 
-  -- a pass of this number that has seen and found what the other one has, and has made nothing
+  -- a pass of this number that has seen what the other one has, and has made nothing, and no move on the roll
   abbrev pub IsSplitOff : Pass V I B G → ℕ → Pass V I B G → Type 0
-  IsSplitOff other n pass = (number_of pass ≡ n) × (base_of pass ≡ base_of other) × (seen_by pass ≡ seen_by other) × (moves_by pass ≡ moves_by other) × (own_of pass ≡ []) × IsAway pass
+  IsSplitOff other n pass = (number_of pass ≡ n) × (base_of pass ≡ base_of other) × (seen_by pass ≡ seen_by other) × (moves_by pass ≡ []) × (own_of pass ≡ []) × IsAway pass
 
-  -- the pass has seen and made nothing, and made no move on the roll
+  -- a pass of the start: it has seen and made nothing, and has drawn its number when as many were out as had numbers below it
   abbrev pub IsNew : B → Pass V I B G → Type 0
-  IsNew base pass = (base_of pass ≡ Some base) × (seen_by pass ≡ []) × (own_of pass ≡ []) × (moves_by pass ≡ []) × IsAway pass
+  IsNew base pass = (base_of pass ≡ Some base) × (seen_by pass ≡ []) × (own_of pass ≡ []) × (moves_by pass ≡ drawing (number_of pass * 4294967297) ∷ []) × IsAway pass
 
 module _ {I : Type 0} where
   -- the list is what was seen, with at most one entry behind it, which has this number

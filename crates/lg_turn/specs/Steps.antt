@@ -1,12 +1,12 @@
 -- What each step on the table tells the pass that makes it, and how views are cut and put together. This project's own.
-use Rattle.std.specs.Prelude.{◌≡◌, ◌≢◌, ℕ, ◌+◌, ◌-◌, ◌%◌, ◌^◌, ◌<◌, ◌≤◌, List, [], ◌∷◌, ◌++◌, Option, Some, drop, length, map, All}
+use Rattle.std.specs.Prelude.{◌≡◌, ◌≢◌, ℕ, ◌%◌, ◌^◌, ◌<◌, ◌≤◌, List, [], ◌∷◌, ◌++◌, Option, Some, drop, length, map, All}
 use Rattle.std.specs.List.{range_with_len}
 use Rattle.atomic_table.specs.Table.{Me, Step}
 use Rattle.lg_turn.specs.declared.view.Account.{Account}
 use Rattle.lg_turn.specs.declared.view.View.{View}
 use Rattle.lg_turn.specs.declared.view.Stage.TheVariants.{Idle, Waits, Holds, Enrols, Undoes, Alone}
 use Rattle.lg_turn.specs.declared.view.Stage.{Stage}
-use Rattle.lg_turn.specs.Views.{account_of, blank, MayFollow, first_of, others_of, number_in, seen_in, own_in, of_pass, BeginsWith, view_of, drawn_in, out_in, longer}
+use Rattle.lg_turn.specs.Views.{account_of, blank, drawing, leaving, looking, MayFollow, first_of, others_of, number_in, seen_in, own_in, of_pass, BeginsWith, view_of, drawn_in, out_in, longer}
 use Rattle.lg_turn.specs.Rule.{Fits}
 
 module _ {I B : Type 0} where
@@ -40,13 +40,13 @@ module _ {I B : Type 0} where
   abbrev pub moved : ℕ × ℕ → Account I B → Account I B
   moved move a = account_of a.number a.base a.seen a.own (move ∷ a.moves)
 
-  -- the account of a new pass, which has the number that was drawn, and has seen and found what the first pass has
+  -- the account of a new pass, which has the number that was drawn, has seen what the first pass has, and made no move
   abbrev pub newcomer : List (Account I B) → Stage → List (Account I B)
   newcomer [] stage = []
   newcomer (a ∷ rest) Idle = []
   newcomer (a ∷ rest) (Waits t) = []
   newcomer (a ∷ rest) (Holds t) = []
-  newcomer (a ∷ rest) (Enrols n out) = account_of n a.base a.seen [] a.moves ∷ []
+  newcomer (a ∷ rest) (Enrols n out) = account_of n a.base a.seen [] [] ∷ []
   newcomer (a ∷ rest) Undoes = []
   newcomer (a ∷ rest) Alone = []
 
@@ -57,28 +57,16 @@ module _ {I B : Type 0} where
   abbrev pub enrolled : View I B → View I B
   enrolled v = view_of (newcomer v.accounts v.stage) Idle
 
-  -- the account of a pass that has seen what another has too
+  -- the account of a pass that has seen what another has too, and keeps the moves of both
   abbrev pub merged : List (Account I B) → List (Account I B) → List (Account I B)
   merged [] others = []
   merged (a ∷ rest) [] = a ∷ rest
-  merged (a ∷ rest) (b ∷ more) = account_of a.number a.base (longer a.seen b.seen) a.own a.moves ∷ rest
+  merged (a ∷ rest) (b ∷ more) = account_of a.number a.base (longer a.seen b.seen) a.own (a.moves ++ b.moves) ∷ rest
 
   -- of the accounts of two passes, the second one's with what both have seen
   abbrev pub absorbed : List (Account I B) → List (Account I B)
   absorbed [] = []
   absorbed (b ∷ rest) = merged rest (b ∷ [])
-
--- the moves on the roll, each with the word that it found and the one that it left: a number is drawn for a pass to come
-abbrev pub drawing : ℕ → ℕ × ℕ
-drawing found = (found, found + 4294967297)
-
--- a pass is taken out
-abbrev pub leaving : ℕ → ℕ × ℕ
-leaving found = (found, found - 1)
-
--- nothing changes
-abbrev pub looking : ℕ → ℕ × ℕ
-looking found = (found, found)
 
 module _ {V I B : Type 0} where
   -- a ticket was drawn, of which these are the lower bits

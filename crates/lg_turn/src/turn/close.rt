@@ -1,9 +1,9 @@
 //! How a turn ends: all passes come together again, and with them the value.
 ghost use Rattle.std.specs.Prelude.{◌≡◌, ◌<◌, ◌≤◌, [], length, flat_map, All, Some, IfOk, IfErr};
 ghost use Rattle.lg_turn.specs.declared.view.Stage.TheVariants.{Idle, Alone};
-ghost use Rattle.lg_turn.specs.Views.{BeginsWith, of_pass, view_of, out_in};
+ghost use Rattle.lg_turn.specs.Views.{BeginsWith, of_pass, view_of, out_in, looking};
 ghost use Rattle.lg_turn.specs.Rule.{passes_of, value_count};
-ghost use Rattle.lg_turn.specs.Steps.{HasCounted, looking};
+ghost use Rattle.lg_turn.specs.Steps.{HasCounted};
 ghost use Rattle.lg_turn.specs.Closings.{Ends};
 ghost use Rattle.lg_turn.specs.Passes.{number_of, base_of, seen_by, own_of, found_by, IsAway, IsPassOf, IsAsBefore, HasMovedOnce, accounts_of, callers_of, origin_of};
 

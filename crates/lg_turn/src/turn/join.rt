@@ -1,9 +1,9 @@
 //! How two passes become one again.
 ghost use Rattle.std.specs.Prelude.{◌≡◌, ◌<◌, [], ◌∷◌, ◌++◌, length, map};
 ghost use Rattle.lg_turn.specs.declared.view.Stage.TheVariants.{Idle};
-ghost use Rattle.lg_turn.specs.Views.{BeginsWith, of_pass, number_in, seen_in, own_in, view_of, longer, drawn_in, MayFollow};
-ghost use Rattle.lg_turn.specs.Steps.{HasAbsorbed, merged, moved, leaving};
-ghost use Rattle.lg_turn.specs.Passes.{number_of, seen_by, own_of, found_by, Follows, IsAway, IsPassOf, IsSamePass, HasMovedOnce};
+ghost use Rattle.lg_turn.specs.Views.{BeginsWith, of_pass, number_in, seen_in, own_in, view_of, longer, drawn_in, leaving, MayFollow};
+ghost use Rattle.lg_turn.specs.Steps.{HasAbsorbed, merged, moved};
+ghost use Rattle.lg_turn.specs.Passes.{number_of, seen_by, own_of, moves_by, found_by, Follows, IsAway, IsPassOf, IsSamePass};
 
 use super::{ROLL, SeatOf, SharedOf, Turn};
 use crate::keeps::Keeps;
@@ -51,7 +51,7 @@ impl<V: Keeps> Turn<V> {
     /// Takes the other pass into this one, which keeps its number and its own entries, and has then seen the longer of
     /// what both have seen, which begins with what each of them had. The entries of the other pass stay in the list.
     /// What the call finds in the roll comes behind all that both had found or left there, and the other's number was
-    /// drawn before it: it is not drawn again. It takes no memory, and waits for nobody.
+    /// drawn before it: it is not drawn again. The pass keeps the moves of both. It takes no memory, and waits for nobody.
     pub fn join(&self, pass: &mut Pass<V>, other: Pass<V>)
         requires turn { IsPassOf self.now pass.old × IsPassOf self.now other }
         requires away { IsAway pass.old × IsAway other }
@@ -59,8 +59,8 @@ impl<V: Keeps> Turn<V> {
         ensures away { IsAway pass.new }
         ensures seen { seen_by pass.new ≡ longer (seen_by pass.old) (seen_by other) }
         ensures begins { BeginsWith (seen_by pass.new) (seen_by pass.old) × BeginsWith (seen_by pass.new) (seen_by other) }
-        ensures moved { HasMovedOnce leaving pass.old pass.new }
-        ensures others { Follows (found_by pass.new) other }
+        ensures moves { moves_by pass.new ≡ leaving (found_by pass.new) ∷ moves_by pass.old ++ moves_by other }
+        ensures follows { Follows (found_by pass.new) pass.old × Follows (found_by pass.new) other }
         ensures drawn { number_of other < drawn_in (found_by pass.new) }
     {
         let Pass { number: _, seat } = other;

@@ -1,9 +1,9 @@
 //! How a pass is split in two: the roll has room for one more, and a number for it.
 ghost use Rattle.std.specs.Prelude.{◌≡◌, ◌+◌, ◌*◌, ◌<◌, ◌≤◌, [], ◌∷◌, length, map, Some, None, IfOk, IfErr};
 ghost use Rattle.lg_turn.specs.declared.view.Stage.TheVariants.{Idle, Enrols};
-ghost use Rattle.lg_turn.specs.Views.{number_in, view_of, drawn_in, out_in};
+ghost use Rattle.lg_turn.specs.Views.{number_in, view_of, drawn_in, out_in, drawing};
 ghost use Rattle.lg_turn.specs.Rule.{out_count, undone_count};
-ghost use Rattle.lg_turn.specs.Steps.{HasEnrolled, drawing, newcomer};
+ghost use Rattle.lg_turn.specs.Steps.{HasEnrolled, newcomer};
 ghost use Rattle.lg_turn.specs.Passes.{number_of, found_by, fault_at, IsAway, IsPassOf, IsAsBefore, HasMovedOnce, IsSplitOff, callers_of};
 
 use super::{ONE_MORE, ROLL, SeatOf, SharedOf, Turn};
@@ -48,8 +48,8 @@ fn part<V: Keeps>(shared: &SharedOf<V>, seat: &mut SeatOf<V>, number: u64, out: 
 }
 
 impl<V: Keeps> Turn<V> {
-    /// Makes a second pass of one. The second has the number that the call drew, which no pass had before, has seen and
-    /// found what the first has, and has made nothing; the first stays as it is, but for its move on the roll. The call
+    /// Makes a second pass of one. The second has the number that the call drew, which no pass had before, has seen what
+    /// the first has, and has made nothing; the first stays as it is, but for its one move on the roll. The call
     /// finds in the roll how many numbers were drawn before it, and how many passes are out, where a split that is
     /// under way counts for one more; this comes behind all that the pass had found or left there. It answers `Spent`
     /// exactly where it finds 4,294,967,168 numbers or more, and else `Many` exactly where it finds as many passes as
