@@ -1,14 +1,18 @@
 -- Accounts of passes that see more.
-use Rattle.std.proofs.Common.{◌≡◌, ℕ, ◌<◌, List, [], ◌∷◌, map, length, arith, ap, sym, refl}
+use Rattle.std.proofs.Common.{◌≡◌, ℕ, ◌+◌, ◌<◌, ◌≤◌, List, [], ◌∷◌, map, length, arith, ap, sym, refl}
 use Rattle.std.specs.Prelude.{◌==◌, nat_lt, if◌then◌else◌}
 use Rattle.std.specs.List.{sum_by, All}
 use Rattle.std.proofs.lemmas.List.{append-nil}
 use Rattle.std.proofs.lemmas.List.Sums.{sum_by-cons}
 use Rattle.std.proofs.lemmas.List.Elements.{All-map, All-weaker}
 use Rattle.lg_turn.specs.declared.view.Account.{Account}
-use Rattle.lg_turn.specs.Views.{seen_in}
+use Rattle.lg_turn.specs.Views.{seen_in, drawn_in, draws_in}
 use Rattle.lg_turn.specs.Rule.{Fits}
-use Rattle.lg_turn.specs.Steps.{after_take}
+use Rattle.lg_turn.specs.Steps.{after_take, moved}
+use Rattle.lg_turn.proofs.Counts.{one_low}
+
+abbrev draw : ℕ × ℕ → ℕ
+draw m = if nat_lt (drawn_in m.0) (drawn_in m.1) then 1 else 0
 
 module _ {I B : Type 0} where
   -- the numbers stay where each account keeps its own
@@ -28,6 +32,29 @@ module _ {I B : Type 0} where
       let here : one (f a) ≡ one a = ap (λ (m : ℕ). if nat_lt m n then 1 else 0) (same a) in
       omega (arith, sum_by-cons one (f a) (map f rest), sum_by-cons one a rest, lows_map f same n rest)
 
+  -- the draws stay where each account keeps its moves, and are no fewer after one more move
+  pub draws_map : (f : Account I B → Account I B) → ((a : Account I B) → (f a).moves ≡ a.moves) → (accounts : List (Account I B))
+      → sum_by (λ (a : Account I B). draws_in a.moves) (map f accounts) ≡ sum_by (λ (a : Account I B). draws_in a.moves) accounts
+  draws_map f same [] = refl
+  draws_map f same (a ∷ rest) =
+      let here : draws_in (f a).moves ≡ draws_in a.moves = ap draws_in (same a) in
+      omega (arith, here, sum_by-cons (λ (b : Account I B). draws_in b.moves) (f a) (map f rest), sum_by-cons (λ (b : Account I B). draws_in b.moves) a rest, draws_map f same rest)
+
+  pub draws-le-moved : (move : ℕ × ℕ) (accounts : List (Account I B)) → sum_by (λ (a : Account I B). draws_in a.moves) accounts ≤ sum_by (λ (a : Account I B). draws_in a.moves) (map (moved move) accounts)
+  draws-le-moved move [] = omega arith
+  draws-le-moved move (a ∷ rest) =
+      let here = sum_by-cons draw move a.moves in
+      omega (arith, here, sum_by-cons (λ (b : Account I B). draws_in b.moves) (moved move a) (map (moved move) rest), sum_by-cons (λ (b : Account I B). draws_in b.moves) a rest, draws-le-moved move rest)
+
+  -- a number more is drawn
+  pub draws-lt-moved : (move : ℕ × ℕ) (accounts : List (Account I B)) → 0 < length accounts → drawn_in move.0 < drawn_in move.1
+      → sum_by (λ (a : Account I B). draws_in a.moves) accounts + 1 ≤ sum_by (λ (a : Account I B). draws_in a.moves) (map (moved move) accounts)
+  draws-lt-moved move [] some h = absurd (omega arith)
+  draws-lt-moved move (a ∷ rest) some h =
+      let here = sum_by-cons draw move a.moves in
+      let one : draw move ≡ 1 = one_low (drawn_in move.0) (drawn_in move.1) h in
+      omega (arith, here, one, sum_by-cons (λ (b : Account I B). draws_in b.moves) (moved move a) (map (moved move) rest), sum_by-cons (λ (b : Account I B). draws_in b.moves) a rest, draws-le-moved move rest)
+
   pub seen_in-after_take : (list : List I) (accounts : List (Account I B)) → 0 < length accounts → seen_in (map (after_take list) accounts) ≡ list
   seen_in-after_take list [] h = absurd (omega arith)
   seen_in-after_take list (a ∷ rest) h = refl
@@ -37,4 +64,4 @@ module _ {V I B : Type 0} (items : V → List I) (number : I → ℕ) (base : V 
   pub fits_after_take : (origin : B) (list : List I) (accounts : List (Account I B)) → All (Fits items number base origin list) accounts → All (Fits items number base origin list) (map (after_take list) accounts)
   fits_after_take origin list accounts fits = All-map (Fits items number base origin list) (after_take list) accounts
       (All-weaker (Fits items number base origin list) (λ (a : Account I B). Fits items number base origin list (after_take list a))
-      (λ a f. record { base_is = f.base_is; begins = ([], sym (append-nil list)); own_is = f.own_is }) accounts fits)
+      (λ a f. record { base_is = f.base_is; begins = ([], sym (append-nil list)); own_is = f.own_is; own_seen = f.own_is }) accounts fits)

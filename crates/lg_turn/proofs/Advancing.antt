@@ -2,7 +2,7 @@
 use Rattle.std.proofs.Common.{subst, ◌≡◌, ◌≢◌, ℕ, ◌+◌, ◌%◌, ◌^◌, ◌<◌, ◌≤◌, List, [], ◌∷◌, ◌++◌, set, get_or, arith, ap, sym, refl, ◌∙◌, inl, ⊎_elim, Option, Some}
 use mathlib.Core.Option.{Option as Maybe, some, none}
 use mathlib.Core.Logic.{dite}
-use native.Mathlib.Decide.{ℕ_discrete, dec_lt}
+use native.Mathlib.Decide.{ℕ_discrete}
 use lib.ListN.{get_elem?}
 use Rattle.std.specs.List.{sum_by, All}
 use Rattle.std.proofs.Math.Nat.{mod-add-mod}
@@ -13,11 +13,12 @@ use Rattle.lg_turn.specs.declared.view.View.{View}
 use Rattle.lg_turn.specs.declared.view.Stage.{Stage}
 use Rattle.lg_turn.specs.declared.view.Stage.TheVariants.{Idle, Waits, Holds, Enrols, Undoes, Alone}
 use Rattle.lg_turn.specs.Views.{view_of, account_of}
-use Rattle.lg_turn.specs.Rule.{same_number, low_of, with_number, values_of, tickets_of, with_ticket, value_count, Stands, Slot, Fits, Knows, IsKept}
+use Rattle.lg_turn.specs.Rule.{same_number, made_of, times, with_number, values_of, tickets_of, with_ticket, value_count, Stands, Slot, Fits, Knows, IsKept}
 use Rattle.lg_turn.specs.Steps.{Advances, after_give}
 use Rattle.lg_turn.proofs.Sums.{sum_by_set, each_set, part-le-sum_by, two_parts-le-sum_by}
-use Rattle.lg_turn.proofs.Counts.{one_if_same, none_if_other, none_low}
-use Rattle.lg_turn.proofs.Parts.{sum_stays, roll_stays, roll_longer, one_not_low}
+use Rattle.lg_turn.proofs.Counts.{one_if_same, none_if_other}
+use Rattle.lg_turn.proofs.Told.{each_word_one}
+use Rattle.lg_turn.proofs.Parts.{roll_stays, roll_longer}
 use Rattle.lg_turn.proofs.Entries.{numbers_other, others_fit, giver_fits, of_pass-still_none}
 
 -- after an advance the words show the next ticket that is served
@@ -43,9 +44,9 @@ module _ {V I B : Type 0} (items : V → List I) (number : I → ℕ) (base : V 
     abbrev Rule : State (Option V) (View I B) → Type 0
     Rule = IsKept items number base callers origin
 
-    module _ (s : State (Option V) (View I B)) (k : Rule s) (id n : ℕ) (own : List I) (asked : List ℕ) (new : List I) (own_new : All (λ e. number e ≡ n) new) (at : get_elem? s.views id ≡ some (view_of (account_of n origin k.list own asked ∷ []) (Holds k.serving))) where
+    module _ (s : State (Option V) (View I B)) (k : Rule s) (id n : ℕ) (own : List I) (moves : List (ℕ × ℕ)) (new : List I) (own_new : All (λ e. number e ≡ n) new) (at : get_elem? s.views id ≡ some (view_of (account_of n origin k.list own moves ∷ []) (Holds k.serving))) where
       abbrev mine : Account I B
-      mine = account_of n origin k.list own asked
+      mine = account_of n origin k.list own moves
 
       abbrev before : View I B
       before = view_of (mine ∷ []) (Holds k.serving)
@@ -82,7 +83,7 @@ module _ {V I B : Type 0} (items : V → List I) (number : I → ℕ) (base : V 
       i_know : Knows items number base origin (k.list ++ new) (k.serving + 1) after
       i_know =
           let fit = All-head (Fits items number base origin k.list) mine [] (k.each_pass id before at).fits in record {
-            fits = All-cons (Fits items number base origin (k.list ++ new)) _ [] (giver_fits items number base origin k.list new n own_new own asked fit.own_is) (All-nil (Fits items number base origin (k.list ++ new)));
+            fits = All-cons (Fits items number base origin (k.list ++ new)) _ [] (giver_fits items number base origin k.list new n own_new own moves fit.own_is) (All-nil (Fits items number base origin (k.list ++ new)));
             stands = tt;
           }
 
@@ -92,23 +93,12 @@ module _ {V I B : Type 0} (items : V → List I) (number : I → ℕ) (base : V 
           let moved : sum_by values_of (set s.views id after) + 1 ≡ sum_by values_of s.views + 0 = sum_by_set values_of s.views id before after at in
           ⊎_elim (λ home. let z = home.4 in absurd (omega arith)) (λ out. let z = out.1 in inl (value, ap (λ (hs : List (Maybe (Option V))). set hs 0 (some (Some value))) out.0, is, over, omega arith)) k.slot
 
-      new_drawn : All (λ e. number e < k.made) new
-      new_drawn =
-          let one = my_number in let part = part-le-sum_by (with_number n) s.views id before at in
-          let small : n < k.made = dite (dec_lt n k.made) (λ h. h) (λ no. let z = (k.roll.numbers n).1 (omega arith) in absurd (omega arith)) in
-          All-weaker (λ e. number e ≡ n) (λ e. number e < k.made) (λ e h. omega arith) new own_new
-
-      same_low : low_of callers after ≡ low_of callers before
-      same_low = refl
-
-      new_low : callers ≤ sum_by (low_of callers) (set s.views id after) → All (λ e. number e < callers) new
-      new_low full =
-          let stays = sum_stays s.views id before after at (low_of callers) same_low in
-          let small : n < callers = dite (dec_lt n callers) (λ h. h) (λ no.
-          let high : low_of callers before ≡ 0 = omega (arith, none_low n callers (omega arith)) in
-          let fewer = one_not_low callers s.views id before at high (omega arith) in
-          let most = k.roll.passes in absurd (omega (arith, stays, full, fewer, most))) in
-          All-weaker (λ e. number e ≡ n) (λ e. number e < callers) (λ e h. omega arith) new own_new
+      new_made : All (λ e. times (number e) k.made ≡ 1) new
+      new_made =
+          let one : made_of callers n before ≡ 1 = omega (arith, one_if_same n n refl) in let part = part-le-sum_by (made_of callers n) s.views id before at in
+          let g = k.roll.given n in
+          let made_once : times n k.made ≡ 1 = omega (arith, one, part, g.0, g.1) in
+          All-weaker (λ e. number e ≡ n) (λ e. times (number e) k.made ≡ 1) (λ e h. ap (λ (m : ℕ). times m k.made) h ∙ made_once) new own_new
 
       apart_advanced : (t : ℕ) → (sum_by (with_ticket t) (set s.views id after) ≤ 1) × (t < k.serving + 1 → sum_by (with_ticket t) (set s.views id after) ≡ 0) × (k.ticket ≤ t → sum_by (with_ticket t) (set s.views id after) ≡ 0)
       apart_advanced t =
@@ -124,37 +114,37 @@ module _ {V I B : Type 0} (items : V → List I) (number : I → ℕ) (base : V 
         serving = k.serving + 1;
         ticket = k.ticket;
         made = k.made;
+        next = k.next;
         word = k.word;
         words = words_advanced s.words k.ticket k.serving k.word k.words;
         slot = comes_home value is over;
         each_pass = each_set (λ j u. Knows items number base origin (k.list ++ new) (k.serving + 1) u) s.views id after i_know others_know;
         few = k.few;
-        roll = roll_longer items number base callers k.list k.made k.word (set s.views id after) new
-            (roll_stays items number base callers k.list k.made k.word s.views id before after at refl (λ m. refl) refl refl refl k.roll)
-            new_drawn
-            new_low;
+        roll = roll_longer items number base callers k.list k.made k.next k.word (set s.views id after) new
+            (roll_stays items number base callers k.list k.made k.next k.word s.views id before after at refl (λ m. refl) refl refl refl (λ P h. each_word_one P (after_give (k.list ++ new) mine) (All-head (λ (a : Account I B). All (λ (m : ℕ × ℕ). P m.0 × P m.1) a.moves) mine [] h)) (λ m. refl) refl k.roll)
+            new_made;
         drawn = (let moved : sum_by tickets_of (set s.views id after) + 1 ≡ sum_by tickets_of s.views + 0 = sum_by_set tickets_of s.views id before after at in let d = k.drawn in omega arith);
         apart = apart_advanced;
       }
 
-    pub advances : (slots id t n : ℕ) (over : B) (seen own : List I) (asked : List ℕ) (new : List I) (value : V) → base value ≡ over → items value ≡ seen ++ new → All (λ e. number e ≡ n) new
-        → Allows Rule slots id (view_of (account_of n over seen own asked ∷ []) (Holds t), (0, Some value) ∷ []) 1 (λ m. (m + 1) % 2 ^ 64) (Advances items number base (step slots 1 1 0 none) (view_of (account_of n over seen own asked ∷ []) (Holds t), (0, Some value) ∷ []))
-    advances slots id t n over seen own asked new value based is own_new s k sized at small =
-        let known = k.each_pass id (view_of (account_of n over seen own asked ∷ []) (Holds t)) at in
-        let over_is : over ≡ origin = (All-head (Fits items number base origin k.list) (account_of n over seen own asked) [] known.fits).base_is in
+    pub advances : (slots id t n : ℕ) (over : B) (seen own : List I) (moves : List (ℕ × ℕ)) (new : List I) (value : V) → base value ≡ over → items value ≡ seen ++ new → All (λ e. number e ≡ n) new
+        → Allows Rule slots id (view_of (account_of n over seen own moves ∷ []) (Holds t), (0, Some value) ∷ []) 1 (λ m. (m + 1) % 2 ^ 64) (Advances items number base (step slots 1 1 0 none) (view_of (account_of n over seen own moves ∷ []) (Holds t), (0, Some value) ∷ []))
+    advances slots id t n over seen own moves new value based is own_new s k sized at small =
+        let known = k.each_pass id (view_of (account_of n over seen own moves ∷ []) (Holds t)) at in
+        let over_is : over ≡ origin = (All-head (Fits items number base origin k.list) (account_of n over seen own moves) [] known.fits).base_is in
         let t_is : t ≡ k.serving = known.stands.1 in
         let seen_is : seen ≡ k.list = known.stands.2 in
-        let at' : get_elem? s.views id ≡ some (view_of (account_of n origin k.list own asked ∷ []) (Holds k.serving)) = at ∙ (λ i. some (view_of (account_of n (over_is i) (seen_is i) own asked ∷ []) (Holds (t_is i)))) in
+        let at' : get_elem? s.views id ≡ some (view_of (account_of n origin k.list own moves ∷ []) (Holds k.serving)) = at ∙ (λ i. some (view_of (account_of n (over_is i) (seen_is i) own moves ∷ []) (Holds (t_is i)))) in
         let longer : items value ≡ k.list ++ new = is ∙ ap (λ (l : List I). l ++ new) seen_is in (
-          after s k id n own asked new own_new at',
+          after s k id n own moves new own_new at',
           gives,
           tt,
-          advanced s k id n own asked new own_new at' value longer (based ∙ over_is),
+          advanced s k id n own moves new own_new at' value longer (based ∙ over_is),
           λ value' held.
               let same = same_value value value' held in
               let back : k.list ++ new ≡ items value' = sym longer ∙ ap items same in
               let over' : origin ≡ base value' = sym (based ∙ over_is) ∙ ap base same in (
-                (λ i. (view_of (after_give (back i) (account_of n (sym over_is i) (sym seen_is i) own asked) ∷ []) Idle, [])),
-                subst (λ (z : B × List I). All (Fits items number base z.0 z.1) (after_give (k.list ++ new) (account_of n origin k.list own asked) ∷ [])) (λ i. (over' i, back i)) (i_know s k id n own asked new own_new at').fits,
+                (λ i. (view_of (after_give (back i) (account_of n (sym over_is i) (sym seen_is i) own moves) ∷ []) Idle, [])),
+                subst (λ (z : B × List I). All (Fits items number base z.0 z.1) (after_give (k.list ++ new) (account_of n origin k.list own moves) ∷ [])) (λ i. (over' i, back i)) (i_know s k id n own moves new own_new at').fits,
               ),
         )

@@ -12,6 +12,7 @@ use Rattle.lg_turn.specs.declared.view.Stage.{Stage}
 use Rattle.lg_turn.specs.declared.view.Stage.TheVariants.{Idle, Waits, Holds, Enrols, Undoes, Alone}
 use Rattle.lg_turn.specs.Rule.{passes_of, low_of, values_of, value_count, Stands, Fits, IsKept}
 use Rattle.lg_turn.specs.Closings.{Ends}
+use Rattle.lg_turn.proofs.Parts.{entered_low}
 use Rattle.lg_turn.proofs.Sums.{part-le-sum_by, two_parts-le-sum_by, some_part}
 
 module _ {V I B : Type 0} (items : V → List I) (number : I → ℕ) (base : V → B) where
@@ -46,7 +47,7 @@ module _ {V I B : Type 0} (items : V → List I) (number : I → ℕ) (base : V 
           record {
             base_is = home.3;
             fits = subst (λ (l : List I). All (Fits items number base origin l) v.accounts) (sym home.2) (k.each_pass id v at).fits;
-            whole = λ h. subst (All (λ e. number e < callers)) (sym home.2) (k.roll.whole (let part = part-le-sum_by (low_of callers) s.views id v at in omega (arith, part, h)));
+            whole = λ h. subst (All (λ e. number e < callers)) (sym home.2) (entered_low items number base callers k.list k.made k.next k.word s.views k.roll (let part = part-le-sum_by (low_of callers) s.views id v at in omega (arith, part, h)));
           },
         ))
         (λ out. let one = out.1 in absurd (omega arith))

@@ -1,12 +1,12 @@
 -- Passes that are handed out one after another.
-use Rattle.std.proofs.Common.{◌≡◌, ℕ, zero, suc, ◌+◌, ◌-◌, ◌<◌, List, [], ◌∷◌, ◌++◌, map, arith, ap, sym, ◌∙◌, Option}
+use Rattle.std.proofs.Common.{◌≡◌, ℕ, zero, suc, ◌+◌, ◌-◌, ◌*◌, ◌<◌, List, [], ◌∷◌, ◌++◌, map, arith, ap, sym, ◌∙◌, Option}
 use Rattle.std.specs.List.{range_with_len}
 use Rattle.atomic_table.specs.Table.{Me}
 use Rattle.lg_turn.specs.declared.keeps.Keeps.{Ghosts}
 use Rattle.lg_turn.specs.declared.pass.Pass.{Pass}
 use Rattle.lg_turn.specs.declared.view.View.{View}
 use Rattle.lg_turn.specs.declared.view.Stage.TheVariants.{Idle}
-use Rattle.lg_turn.specs.Views.{blank, view_of, base_in, seen_in, own_in}
+use Rattle.lg_turn.specs.Views.{blank, drawing, number_in, view_of, base_in, seen_in, own_in, moves_in}
 use Rattle.lg_turn.specs.Passes.{number_of, IsNew}
 use Rattle.std.proofs.lemmas.List.{map-append}
 
@@ -36,6 +36,8 @@ module _ {V I B : Type 0} {G : Ghosts V I B} where
     ap (λ (me : Me (Option V) (View I B)). base_in me.0.accounts) is,
     ap (λ (me : Me (Option V) (View I B)). seen_in me.0.accounts) is,
     ap (λ (me : Me (Option V) (View I B)). own_in me.0.accounts) is,
+    ap (λ (me : Me (Option V) (View I B)). moves_in me.0.accounts) is
+        ∙ ap (λ (m : ℕ). drawing (m * 4294967297) ∷ []) (sym (ap (λ (me : Me (Option V) (View I B)). number_in me.0.accounts) is) ∙ pass.numbered),
     ap (λ (me : Me (Option V) (View I B)). me.0.stage) is,
   )
 

@@ -1,5 +1,6 @@
 pub mod Sums
 pub mod Counts
+pub mod Told
 pub mod Parts
 pub mod Accounts
 pub mod Opening

@@ -18,8 +18,9 @@ use Rattle.lg_turn.specs.Rule.{passes_of, values_of, tickets_of, with_ticket, ti
 use Rattle.lg_turn.specs.Steps.{Looks, after_take}
 use Rattle.lg_turn.proofs.Sums.{sum_by_set, each_set, part-le-sum_by, two_parts-le-sum_by, some_part, sum_by-le-sum_by}
 use Rattle.lg_turn.proofs.Counts.{one_if_same}
+use Rattle.lg_turn.proofs.Told.{each_word_same}
 use Rattle.lg_turn.proofs.Parts.{sum_stays, roll_stays}
-use Rattle.lg_turn.proofs.Accounts.{numbers_map, lows_map, seen_in-after_take, fits_after_take}
+use Rattle.lg_turn.proofs.Accounts.{draws_map, numbers_map, lows_map, seen_in-after_take, fits_after_take}
 
 module _ {V I B : Type 0} (items : V → List I) (number : I → ℕ) (base : V → B) where
   -- who has a ticket stands for a pass
@@ -88,6 +89,7 @@ module _ {V I B : Type 0} (items : V → List I) (number : I → ℕ) (base : V 
             serving = k.serving;
             ticket = k.ticket;
             made = k.made;
+            next = k.next;
             word = k.word;
             words = set-get_or s.words 1 0 ∙ k.words;
             slot = inr (ap (λ (hs : List (Maybe (Option V))). set hs 0 none) home, (let moved : sum_by values_of (set s.views id after) + 0 ≡ sum_by values_of s.views + 1 = sum_by_set values_of s.views id before after at in omega arith));
@@ -95,12 +97,15 @@ module _ {V I B : Type 0} (items : V → List I) (number : I → ℕ) (base : V 
                 record { fits = fits_after_take items number base origin k.list accounts known.fits; stands = (omega (arith, known.stands), refl, seen_in-after_take k.list accounts known.stands) }
                 (λ j u _ e. k.each_pass j u e);
             few = k.few;
-            roll = roll_stays items number base callers k.list k.made k.word s.views id before after at
+            roll = roll_stays items number base callers k.list k.made k.next k.word s.views id before after at
                 (ap (λ (n : ℕ). n + 0) wide)
                 (λ n. ap (λ (m : ℕ). m + 0) (numbers_map (after_take k.list) (λ a. refl) n accounts))
                 (ap (λ (n : ℕ). n + 0) wide)
                 refl
                 (ap (λ (m : ℕ). m + 0) (lows_map (after_take k.list) (λ a. refl) callers accounts))
+                (λ P h. each_word_same P (after_take k.list) (λ Q a q. q) accounts h)
+                (λ n. ap (λ (m : ℕ). m + 0) (numbers_map (after_take k.list) (λ a. refl) n accounts))
+                (draws_map (after_take k.list) (λ a. refl) accounts)
                 k.roll;
             drawn = ap (λ (n : ℕ). k.serving + n) (sum_stays s.views id before after at tickets_of refl) ∙ k.drawn;
             apart = λ t. let e = sum_stays s.views id before after at (with_ticket t) refl in let a = k.apart t in (omega (arith, e, a.0), (λ h. e ∙ a.1 h), λ h. e ∙ a.2 h);

@@ -5,11 +5,11 @@ use Rattle.std.proofs.lemmas.Bool.Decides.{nat_tests}
 use Rattle.lg_turn.specs.declared.view.Account.{Account}
 use Rattle.lg_turn.specs.declared.view.Stage.{Stage}
 use Rattle.lg_turn.specs.declared.view.Stage.TheVariants.{Idle, Waits, Holds, Enrols, Undoes, Alone}
-use Rattle.lg_turn.specs.Views.{account_of, number_in, base_in, seen_in, own_in, asked_in, has_empty_slot, is_settled_at}
+use Rattle.lg_turn.specs.Views.{account_of, number_in, base_in, seen_in, own_in, moves_in, has_empty_slot, is_settled_at}
 
 module _ {I B : Type 0} where
   pub one_account : (accounts : List (Account I B)) → length accounts ≡ 1
-      → (base : B) × (base_in accounts ≡ Some base) × (accounts ≡ account_of (number_in accounts) base (seen_in accounts) (own_in accounts) (asked_in accounts) ∷ [])
+      → (base : B) × (base_in accounts ≡ Some base) × (accounts ≡ account_of (number_in accounts) base (seen_in accounts) (own_in accounts) (moves_in accounts) ∷ [])
   one_account [] h = absurd (omega arith)
   one_account (a ∷ []) h = (a.base, refl, refl)
   one_account (a ∷ b ∷ rest) h = absurd (omega arith)

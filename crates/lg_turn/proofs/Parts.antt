@@ -1,17 +1,20 @@
 -- The parts of the rule that a step keeps which changes one view, or which leaves the counts as they are.
 use Rattle.std.proofs.Common.{◌≡◌, ℕ, ◌+◌, ◌*◌, ◌<◌, ◌≤◌, List, [], ◌∷◌, ◌++◌, length, set, arith, sym, ◌∙◌, Bool, true, false, cond}
 use mathlib.Core.Option.{some}
+use mathlib.Core.Logic.{dite}
+use native.Mathlib.Decide.{dec_lt}
 use lib.ListN.{get_elem?}
 use Rattle.std.specs.Prelude.{nat_lt, if◌then◌else◌}
 use Rattle.std.specs.List.{sum_by, All}
 use Rattle.std.proofs.lemmas.List.Sums.{sum_by-cons}
-use Rattle.std.proofs.lemmas.List.Elements.{All-append}
+use Rattle.std.proofs.lemmas.List.Elements.{All-append, All-weaker}
 use Rattle.lg_turn.specs.declared.view.Account.{Account}
 use Rattle.lg_turn.specs.declared.view.View.{View}
 use Rattle.lg_turn.specs.declared.view.Stage.{Stage}
 use Rattle.lg_turn.specs.declared.view.Stage.TheVariants.{Idle, Waits, Holds, Enrols, Undoes, Alone}
-use Rattle.lg_turn.specs.Rule.{passes_of, with_number, out_of, undone_of, low_of, low_count, place_count, Roll}
-use Rattle.lg_turn.specs.Steps.{spent}
+use Rattle.lg_turn.specs.Rule.{passes_of, with_number, out_of, undone_of, low_of, low_count, place_count, made_of, draws_of, times, EachFound, Roll}
+use Rattle.lg_turn.specs.Views.{EachWord}
+use Rattle.lg_turn.proofs.Told.{told_same, each_found_set}
 use Rattle.lg_turn.proofs.Sums.{sum_by_set, sum_by-le-sum_by}
 
 module _ {I B : Type 0} (views : List (View I B)) (id : ℕ) (v w : View I B) (at : get_elem? views id ≡ some v) where
@@ -19,45 +22,64 @@ module _ {I B : Type 0} (views : List (View I B)) (id : ℕ) (v w : View I B) (a
   pub sum_stays : (f : View I B → ℕ) → f w ≡ f v → sum_by f (set views id w) ≡ sum_by f views
   sum_stays f same = omega (arith, sum_by_set f views id v w at)
 
-module _ {V I B : Type 0} (items : V → List I) (number : I → ℕ) (base : V → B) (callers : ℕ) (list : List I) (made word : ℕ) where
+module _ {V I B : Type 0} (items : V → List I) (number : I → ℕ) (base : V → B) (callers : ℕ) (list : List I) (made : List ℕ) (next word : ℕ) where
   -- the roll is right of other views too, where as many are out, and no more passes are there
-  pub roll_on : (views views' : List (View I B)) → Roll items number base callers list made word views
+  pub roll_on : (views views' : List (View I B)) → Roll items number base callers list made next word views
       → sum_by (passes_of callers) views' ≤ sum_by (passes_of callers) views → ((n : ℕ) → sum_by (with_number n) views' ≤ sum_by (with_number n) views)
       → sum_by out_of views' ≡ sum_by out_of views → sum_by undone_of views' ≡ sum_by undone_of views
-      → sum_by (low_of callers) views' ≤ sum_by (low_of callers) views → Roll items number base callers list made word views'
-  roll_on views views' r passes_less numbers_less out_same undone_same low_less = record {
-    counted = r.counted ∙ (λ i. (made + sym undone_same i) * 4294967296 + sym out_same i);
+      → sum_by (low_of callers) views' ≤ sum_by (low_of callers) views → ((P : ℕ → Type 0) → EachFound P views → EachFound P views') → ((n : ℕ) → sum_by (made_of callers n) views' ≤ sum_by (made_of callers n) views) → sum_by draws_of views ≤ sum_by draws_of views' → Roll items number base callers list made next word views'
+  roll_on views views' r passes_less numbers_less out_same undone_same low_less found_same made_less draws_more = record {
+    counted = r.counted ∙ (λ i. (next + sym undone_same i) * 4294967296 + sym out_same i);
+    fewer = (let fewer = r.fewer in omega (arith, fewer, out_same, undone_same));
+    drawn = (let d = r.drawn in omega (arith, d, draws_more));
+    told = told_same word views views' r.told found_same;
     small = r.small;
     spent = λ h. r.spent (omega (arith, undone_same));
     passes = omega (arith, passes_less, r.passes);
     numbers = λ n. let less = numbers_less n in let once = r.numbers n in (omega (arith, less, once.0), λ h. let z = once.1 h in omega (arith, less, z));
+    given = λ n. let less = made_less n in let once = r.given n in (omega (arith, less, once.0), once.1, once.2);
     entered = r.entered;
     whole = λ h. r.whole (omega (arith, low_less));
   }
 
   -- and where one view changes that answers for the same passes
   pub roll_stays : (views : List (View I B)) (id : ℕ) (v w : View I B) → get_elem? views id ≡ some v → passes_of callers w ≡ passes_of callers v → ((n : ℕ) → with_number n w ≡ with_number n v)
-      → out_of w ≡ out_of v → undone_of w ≡ undone_of v → low_of callers w ≡ low_of callers v → Roll items number base callers list made word views → Roll items number base callers list made word (set views id w)
-  roll_stays views id v w at p n o u l r =
+      → out_of w ≡ out_of v → undone_of w ≡ undone_of v → low_of callers w ≡ low_of callers v → ((P : ℕ → Type 0) → EachWord P v.accounts → EachWord P w.accounts) → ((n : ℕ) → made_of callers n w ≡ made_of callers n v) → draws_of w ≡ draws_of v
+      → Roll items number base callers list made next word views → Roll items number base callers list made next word (set views id w)
+  roll_stays views id v w at p n o u l m g d r =
       roll_on views (set views id w) r
       (omega (arith, sum_stays views id v w at (passes_of callers) p))
-      (λ m. omega (arith, sum_stays views id v w at (with_number m) (n m)))
+      (λ i. omega (arith, sum_stays views id v w at (with_number i) (n i)))
       (sum_stays views id v w at out_of o)
       (sum_stays views id v w at undone_of u)
       (omega (arith, sum_stays views id v w at (low_of callers) l))
+      (λ P h. each_found_set P views id w h (m P (h id v at)))
+      (λ i. omega (arith, sum_stays views id v w at (made_of callers i) (g i)))
+      (omega (arith, sum_stays views id v w at draws_of d))
 
-  -- a longer list, whose new entries have numbers that were drawn
-  pub roll_longer : (views : List (View I B)) (new : List I) → Roll items number base callers list made word views → All (λ e. number e < made) new
-      → (callers ≤ sum_by (low_of callers) views → All (λ e. number e < callers) new) → Roll items number base callers (list ++ new) made word views
-  roll_longer views new r drawn whole = record {
+  -- a longer list, whose new entries have numbers of passes that were made
+  pub roll_longer : (views : List (View I B)) (new : List I) → Roll items number base callers list made next word views → All (λ e. times (number e) made ≡ 1) new → Roll items number base callers (list ++ new) made next word views
+  roll_longer views new r added = record {
     counted = r.counted;
+    fewer = r.fewer;
+    drawn = r.drawn;
+    told = r.told;
     small = r.small;
     spent = r.spent;
     passes = r.passes;
     numbers = r.numbers;
-    entered = All-append (λ e. number e < made) list new r.entered drawn;
-    whole = λ h. All-append (λ e. number e < callers) list new (r.whole h) (whole h);
+    given = r.given;
+    entered = All-append (λ e. times (number e) made ≡ 1) list new r.entered added;
+    whole = r.whole;
   }
+
+  -- entries have numbers that were drawn
+  pub entered_below : (views : List (View I B)) → Roll items number base callers list made next word views → All (λ e. number e < next) list
+  entered_below views r = All-weaker (λ e. times (number e) made ≡ 1) (λ e. number e < next) (λ e one. dite (dec_lt (number e) next) (λ h. h) (λ h. let none_there = (r.given (number e)).2 (omega (arith, h)) in absurd (omega (arith, one, none_there)))) list r.entered
+
+  -- and numbers below callers, while no other pass was made
+  pub entered_low : (views : List (View I B)) → Roll items number base callers list made next word views → callers ≤ sum_by (low_of callers) views → All (λ e. number e < callers) list
+  entered_low views r full = All-weaker (λ e. times (number e) made ≡ 1) (λ e. number e < callers) (λ e one. dite (dec_lt (number e) callers) (λ h. h) (λ h. let none_there = r.whole full (number e) (omega (arith, h)) in absurd (omega (arith, one, none_there)))) list r.entered
 
 pub bit-le-one : (b : Bool) → cond b 1 0 ≤ 1
 bit-le-one true = omega arith
@@ -84,15 +106,9 @@ module _ {I B : Type 0} (callers : ℕ) where
   low-le-length [] = omega arith
   low-le-length (a ∷ rest) = omega (arith, low-le-length rest, sum_by-cons low a rest, bit-le-one (nat_lt a.number callers))
 
-  pub low-le-passes : (v : View I B) → low_of callers v ≤ passes_of callers v
+  low-le-passes : (v : View I B) → low_of callers v ≤ passes_of callers v
   low-le-passes v = omega (arith, low-le-length v.accounts, low-le-place callers v.stage)
 
-  -- where a pass is there with another number, fewer have a number below callers than are there
-  pub one_not_low : (views : List (View I B)) (id : ℕ) (v : View I B) → get_elem? views id ≡ some v → low_of callers v ≡ 0 → passes_of callers v ≡ 1 → sum_by (low_of callers) views < sum_by (passes_of callers) views
-  one_not_low views id v at none_low one =
-      let l = sum_by_set (low_of callers) views id v spent at in
-      let p = sum_by_set (passes_of callers) views id v spent at in
-      let le = sum_by-le-sum_by (low_of callers) (passes_of callers) (set views id spent) (λ i w e. low-le-passes w) in
-      let ls : sum_by (low_of callers) (set views id spent) + low_of callers v ≡ sum_by (low_of callers) views + 0 = l in
-      let ps : sum_by (passes_of callers) (set views id spent) + passes_of callers v ≡ sum_by (passes_of callers) views + 0 = p in
-      omega (arith, ls, ps, le, none_low, one)
+  -- no more passes have a number below callers than are there
+  pub lows-le-passes : (views : List (View I B)) → sum_by (low_of callers) views ≤ sum_by (passes_of callers) views
+  lows-le-passes views = sum_by-le-sum_by (low_of callers) (passes_of callers) views (λ i v e. low-le-passes v)

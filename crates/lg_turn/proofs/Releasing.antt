@@ -1,6 +1,8 @@
 -- A pass that takes out of the roll what it has too many there keeps the rule.
 use Rattle.std.proofs.Common.{◌≡◌, ℕ, ◌+◌, ◌-◌, ◌*◌, ◌%◌, ◌^◌, ◌≤◌, List, [], set, get_or, arith, ap, sym, refl, subst, Option}
 use mathlib.Core.Option.{some, none}
+use mathlib.Core.Logic.{dite}
+use native.Mathlib.Decide.{dec_le}
 use lib.ListN.{get_elem?}
 use Rattle.std.specs.List.{sum_by}
 use Rattle.atomic_table.specs.Table.{State, step, keeps, stepped, Allows}
@@ -9,10 +11,11 @@ use Rattle.lg_turn.specs.declared.view.View.{View}
 use Rattle.lg_turn.specs.declared.view.Stage.{Stage}
 use Rattle.lg_turn.specs.declared.view.Stage.TheVariants.{Idle, Waits, Holds, Enrols, Undoes, Alone}
 use Rattle.lg_turn.specs.Views.{view_of}
-use Rattle.lg_turn.specs.Rule.{passes_of, with_number, low_of, out_of, undone_of, ticket_count, same_ticket, value_count, out_count, undone_count, Roll, IsKept}
+use Rattle.lg_turn.specs.Rule.{passes_of, with_number, made_of, draws_of, low_of, out_of, undone_of, ticket_count, same_ticket, value_count, out_count, undone_count, Told, Roll, IsKept}
 use Rattle.lg_turn.specs.Steps.{Releases}
 use Rattle.lg_turn.proofs.Sums.{sum_by_set}
-use Rattle.lg_turn.proofs.Rolls.{outs_few, undone_few}
+use Rattle.lg_turn.proofs.Rolls.{outs_few, undone_few, upper_half, lower_half}
+use Rattle.lg_turn.proofs.Told.{told_on, precedes_by, each_found_set}
 use Rattle.lg_turn.proofs.Enrolling.{rolled}
 
 -- who has a place too many in the roll has no ticket and no value
@@ -23,6 +26,14 @@ quiet (Holds t) h = absurd (omega arith)
 quiet (Enrols n out) h = (refl, (λ t. refl), refl)
 quiet Undoes h = (refl, (λ t. refl), refl)
 quiet Alone h = absurd (omega arith)
+
+undone-le-one : (stage : Stage) → undone_count stage ≤ 1
+undone-le-one Idle = omega arith
+undone-le-one (Waits t) = omega arith
+undone-le-one (Holds t) = omega arith
+undone-le-one (Enrols n out) = omega arith
+undone-le-one Undoes = omega arith
+undone-le-one Alone = omega arith
 
 module _ {V I B : Type 0} (items : V → List I) (number : I → ℕ) (base : V → B) (callers : ℕ) (origin : B) where
   abbrev Rule : State (Option V) (View I B) → Type 0
@@ -48,6 +59,9 @@ module _ {V I B : Type 0} (items : V → List I) (number : I → ℕ) (base : V 
     numbers_moved : (n : ℕ) → sum_by (with_number n) (set s.views id w) ≤ sum_by (with_number n) s.views
     numbers_moved n = let m = sum_by_set (with_number n) s.views id v w at in omega (arith, m)
 
+    made_moved : (n : ℕ) → sum_by (made_of callers n) (set s.views id w) ≤ sum_by (made_of callers n) s.views
+    made_moved n = let m = sum_by_set (made_of callers n) s.views id v w at in omega (arith, m)
+
     low_moved : sum_by (low_of callers) (set s.views id w) ≤ sum_by (low_of callers) s.views
     low_moved = let m = sum_by_set (low_of callers) s.views id v w at in omega (arith, m)
 
@@ -58,14 +72,39 @@ module _ {V I B : Type 0} (items : V → List I) (number : I → ℕ) (base : V 
         let undone = undone_few items number base callers origin s k in
         omega (arith, k.roll.counted, small, few, undone, out_moved, undone_moved, is)
 
-    roll_released : Roll items number base callers k.list k.made (k.word - excess) (set s.views id w)
+    abbrev numbers_now : ℕ
+    numbers_now = k.next + sum_by undone_of s.views
+
+    told_released : Told (k.word - excess) (set s.views id w)
+    told_released =
+        let few = outs_few items number base callers origin s k in
+        let counted = k.roll.counted in
+        let fewer = k.roll.fewer in
+        let spent = k.roll.spent in
+        let one = undone-le-one stage in
+        let up = upper_half k.word numbers_now (sum_by out_of s.views) counted (omega (arith, few)) in
+        let low = lower_half k.word numbers_now (sum_by out_of s.views) counted (omega (arith, few)) in
+        let less : k.word - excess ≡ (numbers_now - undone_count stage) * 4294967296 + (sum_by out_of s.views - 1) = omega (arith, counted, is, out_moved, undone_moved) in
+        let up' = upper_half (k.word - excess) (numbers_now - undone_count stage) (sum_by out_of s.views - 1) less (omega (arith, few)) in
+        let low' = lower_half (k.word - excess) (numbers_now - undone_count stage) (sum_by out_of s.views - 1) less (omega (arith, few)) in
+        told_on k.word (k.word - excess) s.views (set s.views id w) k.roll.told (omega (arith, up, low, fewer)) (omega (arith, up', low', fewer, out_moved, undone_moved, one))
+        (precedes_by k.word (k.word - excess) numbers_now (sum_by out_of s.views) (numbers_now - undone_count stage) (sum_by out_of s.views - 1) up low up' low'
+        (λ h. dite (dec_le (undone_count stage) 0) (λ z. omega (arith, z)) (λ some. let all_drawn = spent (omega (arith, some, undone_moved)) in absurd (omega (arith, all_drawn, h, undone_moved))))
+        (omega (arith, fewer, out_moved, undone_moved, one)))
+        (λ P h p q. each_found_set P s.views id w h (h id v at))
+
+    roll_released : Roll items number base callers k.list k.made k.next (k.word - excess) (set s.views id w)
     roll_released =
         let r = k.roll in record {
           counted = omega (arith, r.counted, out_moved, undone_moved, is);
+          fewer = (let fewer = r.fewer in let one = undone-le-one stage in omega (arith, fewer, out_moved, undone_moved, one));
+          drawn = (let d = r.drawn in let m = sum_by_set draws_of s.views id v w at in omega (arith, d, m));
+          told = told_released;
           small = r.small;
           spent = λ h. r.spent (omega (arith, h, undone_moved));
           passes = omega (arith, passes_moved, r.passes);
           numbers = λ n. let less = numbers_moved n in let o = r.numbers n in (omega (arith, less, o.0), λ l. let z = o.1 l in omega (arith, less, z));
+          given = λ n. let less = made_moved n in let once = r.given n in (omega (arith, less, once.0), once.1, once.2);
           entered = r.entered;
           whole = λ h. r.whole (omega (arith, h, low_moved));
         }
@@ -74,7 +113,7 @@ module _ {V I B : Type 0} (items : V → List I) (number : I → ℕ) (base : V 
     released =
         let q = quiet stage one_out in
         subst (λ (n : ℕ). Rule (stepped s 2 n id [] w keeps)) (sym word_less)
-        (rolled items number base callers origin s k id accounts accounts stage Idle at q.0 q.1 q.2 record { fits = (k.each_pass id v at).fits; stands = tt } [] k.made (k.word - excess) roll_released)
+        (rolled items number base callers origin s k id accounts accounts stage Idle at q.0 q.1 q.2 record { fits = (k.each_pass id v at).fits; stands = tt } [] k.made k.next (k.word - excess) roll_released)
 
   pub releases : (slots id excess : ℕ) (accounts : List (Account I B)) (stage : Stage) → out_count stage ≡ 1 → excess ≡ undone_count stage * 4294967296 + 1
       → Allows Rule slots id (view_of accounts stage, []) 2 (λ n. (n + (2 ^ 64 - excess)) % 2 ^ 64) (Releases (step slots 2 excess 0 none) (view_of accounts stage, []))

@@ -1,5 +1,5 @@
 -- What a contract says of a pass and of its turn. This project's own.
-use Rattle.std.specs.Prelude.{◌≡◌, ℕ, ◌≤◌, nat_le, if◌then◌else◌, None, List, [], ◌∷◌, ◌++◌, length, All, Option, Some}
+use Rattle.std.specs.Prelude.{◌≡◌, ℕ, ◌*◌, ◌≤◌, nat_le, if◌then◌else◌, None, List, [], ◌∷◌, ◌++◌, length, All, Option, Some}
 use Rattle.lg_turn.specs.declared.keeps.Keeps.{Ghosts}
 use Rattle.lg_turn.specs.declared.pass.Pass.{Pass}
 use Rattle.lg_turn.specs.declared.turn.Turn.{Turn}
@@ -7,16 +7,16 @@ use Rattle.lg_turn.specs.declared.view.Account.{Account}
 use Rattle.lg_turn.specs.declared.view.Stage.TheVariants.{Idle, Holds}
 use Rattle.lg_turn.specs.declared.fault.TurnFault.{TurnFault}
 use Rattle.lg_turn.specs.declared.fault.TurnFault.TheVariants.{Many, Spent}
-use Rattle.lg_turn.specs.Views.{base_in, seen_in, own_in, asked_in, drawn_in, out_in}
+use Rattle.lg_turn.specs.Views.{drawing, base_in, seen_in, own_in, moves_in, MayFollow, drawn_in, out_in}
 
 -- what a split answers that finds this word of the roll: first whether any number is left, and then whether any place is
 abbrev pub fault_at : ℕ → ℕ → Option TurnFault
 fault_at callers word = if nat_le 4294967168 (drawn_in word) then Some Spent else (if nat_le callers (out_in word) then Some Many else None)
 
--- the word that was found last
-abbrev pub last_found : List ℕ → ℕ
+-- the word that was found at the last move
+abbrev pub last_found : List (ℕ × ℕ) → ℕ
 last_found [] = 0
-last_found (word ∷ earlier) = word
+last_found (move ∷ earlier) = move.0
 
 module _ {V I B : Type 0} {G : Ghosts V I B} where
   -- what the pass knows, as a list of one
@@ -38,12 +38,16 @@ module _ {V I B : Type 0} {G : Ghosts V I B} where
   abbrev pub own_of : Pass V I B G → List I
   own_of pass = own_in pass.seat.me.0.accounts
 
-  -- the words that the pass found where it asked for the count of passes, the last one first
-  abbrev pub asked_by : Pass V I B G → List ℕ
-  asked_by pass = asked_in pass.seat.me.0.accounts
+  -- the moves of the pass on the roll, the last one first: the word that it found, and the one that it left
+  abbrev pub moves_by : Pass V I B G → List (ℕ × ℕ)
+  moves_by pass = moves_in pass.seat.me.0.accounts
 
   abbrev pub found_by : Pass V I B G → ℕ
-  found_by pass = last_found (asked_by pass)
+  found_by pass = last_found (moves_by pass)
+
+  -- the roll may come to this word from all words that the pass found or left
+  abbrev pub Follows : ℕ → Pass V I B G → Type 0
+  Follows word pass = MayFollow (accounts_of pass) word
 
   -- the pass is away from the turn
   abbrev pub IsAway : Pass V I B G → Type 0
@@ -64,17 +68,17 @@ module _ {V I B : Type 0} {G : Ghosts V I B} where
   abbrev pub IsAsBefore : Pass V I B G → Pass V I B G → Type 0
   IsAsBefore old new = IsSamePass old new × (seen_by new ≡ seen_by old) × (own_of new ≡ own_of old) × IsAway new
 
-  -- the pass asked once for the count of passes
-  abbrev pub HasAskedOnce : Pass V I B G → Pass V I B G → Type 0
-  HasAskedOnce old new = asked_by new ≡ found_by new ∷ asked_by old
+  -- the pass made one move on the roll: it found a word that may follow on all that it knew, and left another
+  abbrev pub HasMovedOnce : (ℕ → ℕ × ℕ) → Pass V I B G → Pass V I B G → Type 0
+  HasMovedOnce move old new = (moves_by new ≡ move (found_by new) ∷ moves_by old) × Follows (found_by new) old
 
-  -- a pass of this number that has seen what the old one has, and has made nothing
+  -- a pass of this number that has seen what the other one has, and has made nothing, and no move on the roll
   abbrev pub IsSplitOff : Pass V I B G → ℕ → Pass V I B G → Type 0
-  IsSplitOff old n pass = (number_of pass ≡ n) × (base_of pass ≡ base_of old) × (seen_by pass ≡ seen_by old) × (own_of pass ≡ []) × IsAway pass
+  IsSplitOff other n pass = (number_of pass ≡ n) × (base_of pass ≡ base_of other) × (seen_by pass ≡ seen_by other) × (moves_by pass ≡ []) × (own_of pass ≡ []) × IsAway pass
 
-  -- the pass has seen and made nothing
+  -- a pass of the start: it has seen and made nothing, and has drawn its number when as many were out as had numbers below it
   abbrev pub IsNew : B → Pass V I B G → Type 0
-  IsNew base pass = (base_of pass ≡ Some base) × (seen_by pass ≡ []) × (own_of pass ≡ []) × IsAway pass
+  IsNew base pass = (base_of pass ≡ Some base) × (seen_by pass ≡ []) × (own_of pass ≡ []) × (moves_by pass ≡ drawing (number_of pass * 4294967297) ∷ []) × IsAway pass
 
 module _ {I : Type 0} where
   -- the list is what was seen, with at most one entry behind it, which has this number

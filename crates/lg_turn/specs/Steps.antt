@@ -6,7 +6,7 @@ use Rattle.lg_turn.specs.declared.view.Account.{Account}
 use Rattle.lg_turn.specs.declared.view.View.{View}
 use Rattle.lg_turn.specs.declared.view.Stage.TheVariants.{Idle, Waits, Holds, Enrols, Undoes, Alone}
 use Rattle.lg_turn.specs.declared.view.Stage.{Stage}
-use Rattle.lg_turn.specs.Views.{account_of, blank, first_of, others_of, number_in, seen_in, BeginsWith, view_of, drawn_in, out_in, longer}
+use Rattle.lg_turn.specs.Views.{account_of, blank, drawing, leaving, looking, MayFollow, first_of, others_of, number_in, seen_in, own_in, of_pass, BeginsWith, view_of, drawn_in, out_in, longer}
 use Rattle.lg_turn.specs.Rule.{Fits}
 
 module _ {I B : Type 0} where
@@ -30,17 +30,17 @@ module _ {I B : Type 0} where
 
   -- the account after the whole list was seen
   abbrev pub after_take : List I → Account I B → Account I B
-  after_take list a = account_of a.number a.base list a.own a.asked
+  after_take list a = account_of a.number a.base list a.own a.moves
 
   -- the account after the list was given back, with what stands behind the entries that were seen
   abbrev pub after_give : List I → Account I B → Account I B
-  after_give list a = account_of a.number a.base list (a.own ++ drop (length a.seen) list) a.asked
+  after_give list a = account_of a.number a.base list (a.own ++ drop (length a.seen) list) a.moves
 
-  -- the account after a word of the roll was found
-  abbrev pub noted : ℕ → Account I B → Account I B
-  noted word a = account_of a.number a.base a.seen a.own (word ∷ a.asked)
+  -- the account after a move on the roll
+  abbrev pub moved : ℕ × ℕ → Account I B → Account I B
+  moved move a = account_of a.number a.base a.seen a.own (move ∷ a.moves)
 
-  -- the account of a new pass, which has the number that was drawn, and has seen what the first pass has
+  -- the account of a new pass, which has the number that was drawn, has seen what the first pass has, and made no move
   abbrev pub newcomer : List (Account I B) → Stage → List (Account I B)
   newcomer [] stage = []
   newcomer (a ∷ rest) Idle = []
@@ -57,11 +57,11 @@ module _ {I B : Type 0} where
   abbrev pub enrolled : View I B → View I B
   enrolled v = view_of (newcomer v.accounts v.stage) Idle
 
-  -- the account of a pass that has seen what another has too
+  -- the account of a pass that has seen what another has too, and keeps the moves of both
   abbrev pub merged : List (Account I B) → List (Account I B) → List (Account I B)
   merged [] others = []
   merged (a ∷ rest) [] = a ∷ rest
-  merged (a ∷ rest) (b ∷ more) = account_of a.number a.base (longer a.seen b.seen) a.own a.asked ∷ rest
+  merged (a ∷ rest) (b ∷ more) = account_of a.number a.base (longer a.seen b.seen) a.own (a.moves ++ b.moves) ∷ rest
 
   -- of the accounts of two passes, the second one's with what both have seen
   abbrev pub absorbed : List (Account I B) → List (Account I B)
@@ -77,40 +77,55 @@ module _ {V I B : Type 0} where
   abbrev pub HasTicket : ℕ → Me (Option V) (View I B) → Type 0
   HasTicket found me = (t : ℕ) × (found ≡ t % 2 ^ 64) × (me ≡ (view_of me.0.accounts (Waits t), []))
 
-  -- after a word of the roll was found the seat is at this stage
-  abbrev pub HasFound : Me (Option V) (View I B) → ℕ → Stage → Me (Option V) (View I B) → Type 0
-  HasFound me found stage me' = me' ≡ (view_of (map (noted found) me.0.accounts) stage, me.1)
-
-  -- a number was drawn and a place taken, or, past all numbers, both are to be undone
-  abbrev pub HasEnrolled : Me (Option V) (View I B) → ℕ → Me (Option V) (View I B) → Type 0
-  HasEnrolled me found me' =
-      (4294967168 ≤ drawn_in found → HasFound me found Undoes me')
-      × (drawn_in found < 4294967168 → HasFound me found (Enrols (drawn_in found) (out_in found)) me' × (number_in me.0.accounts < drawn_in found))
-
-  abbrev pub Enrolls : Step (Option V) → Me (Option V) (View I B) → ℕ → Me (Option V) (View I B) → Type 0
-  Enrolls st me found me' = HasEnrolled me found me'
+  -- after a move on the roll the seat is at this stage
+  abbrev pub HasMoved : Me (Option V) (View I B) → ℕ × ℕ → Stage → Me (Option V) (View I B) → Type 0
+  HasMoved me move stage me' = me' ≡ (view_of (map (moved move) me.0.accounts) stage, me.1)
 
   -- the roll is right again
   abbrev pub Releases : Step (Option V) → Me (Option V) (View I B) → ℕ → Me (Option V) (View I B) → Type 0
   Releases st me found me' = me' ≡ (view_of me.0.accounts Idle, me.1)
 
-  -- the one of two passes is gone, and the other has seen the longer of what they had, which begins with both
-  abbrev pub Absorbs : Step (Option V) → Me (Option V) (View I B) → ℕ → Me (Option V) (View I B) → Type 0
-  Absorbs st me found me' =
-      (me' ≡ (view_of (absorbed me.0.accounts) Idle, me.1))
-      × All (λ (a : Account I B). BeginsWith (seen_in me'.0.accounts) a.seen) me.0.accounts
-
   -- one pass is out, which is this one, or more
   abbrev pub HasCounted : Me (Option V) (View I B) → ℕ → Me (Option V) (View I B) → Type 0
   HasCounted me found me' =
-      (out_in found ≡ 1 → HasFound me found Alone me')
-      × (out_in found ≢ 1 → HasFound me found Idle me' × (1 < out_in found))
+      (out_in found ≡ 1 → HasMoved me (looking found) Alone me')
+      × (out_in found ≢ 1 → HasMoved me (looking found) Idle me' × (1 < out_in found))
+      × MayFollow me.0.accounts found
 
   abbrev pub Counts : Step (Option V) → Me (Option V) (View I B) → ℕ → Me (Option V) (View I B) → Type 0
   Counts st me found me' = HasCounted me found me'
 
   abbrev pub Draws : Step (Option V) → Me (Option V) (View I B) → ℕ → Me (Option V) (View I B) → Type 0
   Draws st me found me' = HasDrawn me found me'
+
+module _ {V I B : Type 0} (number : I → ℕ) where
+  -- a number was drawn, above that of the first pass, and no pass has seen an entry of it
+  abbrev pub HasDrawnNumber : Me (Option V) (View I B) → ℕ → Me (Option V) (View I B) → Type 0
+  HasDrawnNumber me found me' =
+      HasMoved me (drawing found) (Enrols (drawn_in found) (out_in found)) me'
+      × (number_in me.0.accounts < drawn_in found)
+      × (of_pass number (drawn_in found) (seen_in me.0.accounts) ≡ [])
+
+  -- a number was drawn and a place taken, or, past all numbers, both are to be undone
+  abbrev pub HasEnrolled : Me (Option V) (View I B) → ℕ → Me (Option V) (View I B) → Type 0
+  HasEnrolled me found me' =
+      (4294967168 ≤ drawn_in found → HasMoved me (drawing found) Undoes me')
+      × (drawn_in found < 4294967168 → HasDrawnNumber me found me')
+      × MayFollow me.0.accounts found
+
+  abbrev pub Enrolls : Step (Option V) → Me (Option V) (View I B) → ℕ → Me (Option V) (View I B) → Type 0
+  Enrolls st me found me' = HasEnrolled me found me'
+
+  -- the one of two passes is gone, and the other has seen the longer of what they had, which begins with both
+  abbrev pub HasAbsorbed : Me (Option V) (View I B) → ℕ → Me (Option V) (View I B) → Type 0
+  HasAbsorbed me found me' =
+      (me' ≡ (view_of (map (moved (leaving found)) (absorbed me.0.accounts)) Idle, me.1))
+      × All (λ (a : Account I B). BeginsWith (seen_in me'.0.accounts) a.seen × (a.number < drawn_in found)) me.0.accounts
+      × MayFollow me.0.accounts found
+      × (of_pass number (number_in me'.0.accounts) (seen_in me'.0.accounts) ≡ own_in me'.0.accounts)
+
+  abbrev pub Absorbs : Step (Option V) → Me (Option V) (View I B) → ℕ → Me (Option V) (View I B) → Type 0
+  Absorbs st me found me' = HasAbsorbed me found me'
 
 module _ {V I B : Type 0} (items : V → List I) (number : I → ℕ) (base : V → B) where
   -- the value came out under this ticket, and it fits what was known before
@@ -129,7 +144,7 @@ module _ {V I B : Type 0} (items : V → List I) (number : I → ℕ) (base : V 
   -- one pass has the turn, and may give this value back
   abbrev pub MayGive : View I B → V → Type 0
   MayGive v value =
-      (t : ℕ) × (n : ℕ) × (seen : List I) × (own : List I) × (asked : List ℕ) × (new : List I) × (v ≡ view_of (account_of n (base value) seen own asked ∷ []) (Holds t))
+      (t : ℕ) × (n : ℕ) × (seen : List I) × (own : List I) × (moves : List (ℕ × ℕ)) × (new : List I) × (v ≡ view_of (account_of n (base value) seen own moves ∷ []) (Holds t))
       × (items value ≡ seen ++ new) × All (λ e. number e ≡ n) new
 
   -- the value went home, and what the pass knows now fits it

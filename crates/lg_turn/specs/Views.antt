@@ -1,5 +1,5 @@
 -- What a pass knows of the one list, and where it stands. This project's own.
-use Rattle.std.specs.Prelude.{◌≡◌, ℕ, ◌/◌, ◌%◌, ◌==◌, nat_lt, if◌then◌else◌, List, [], ◌∷◌, ◌++◌, length, filter, Option, Some, None, Bool, true, false, ◌&&◌, is_none}
+use Rattle.std.specs.Prelude.{◌≡◌, ℕ, ◌+◌, ◌-◌, ◌*◌, ◌/◌, ◌%◌, ◌<◌, ◌≤◌, ◌==◌, All, nat_lt, if◌then◌else◌, List, [], ◌∷◌, ◌++◌, length, filter, sum_by, Option, Some, None, Bool, true, false, ◌&&◌, is_none}
 use Rattle.atomic_table.specs.Table.{Me}
 use Rattle.lg_turn.specs.declared.view.Account.{Account}
 use Rattle.lg_turn.specs.declared.view.View.{View}
@@ -13,6 +13,30 @@ drawn_in word = word / 4294967296
 -- how many passes were out, in a word of the roll
 abbrev pub out_in : ℕ → ℕ
 out_in word = word % 4294967296
+
+-- how many had gone again of those for which a number was drawn, in a word of the roll
+abbrev pub gone_in : ℕ → ℕ
+gone_in word = drawn_in word - out_in word
+
+-- the roll may come from one word to another: while numbers are left no number is drawn again, and who has gone stays gone
+abbrev pub Precedes : ℕ → ℕ → Type 0
+Precedes word later = (drawn_in later < 4294967168 → drawn_in word ≤ drawn_in later) × (gone_in word ≤ gone_in later)
+
+-- the moves on the roll, each with the word that it found and the one that it left: a number is drawn for a pass to come
+abbrev pub drawing : ℕ → ℕ × ℕ
+drawing found = (found, found + 4294967297)
+
+-- a pass is taken out
+abbrev pub leaving : ℕ → ℕ × ℕ
+leaving found = (found, found - 1)
+
+-- nothing changes
+abbrev pub looking : ℕ → ℕ × ℕ
+looking found = (found, found)
+
+-- how many of the moves draw a number
+abbrev pub draws_in : List (ℕ × ℕ) → ℕ
+draws_in moves = sum_by (λ m. if nat_lt (drawn_in m.0) (drawn_in m.1) then 1 else 0) moves
 
 module _ {I : Type 0} where
   -- of two beginnings of one list the longer one
@@ -28,12 +52,12 @@ module _ {I : Type 0} where
   of_pass number n list = filter (λ e. number e == n) list
 
 module _ {I B : Type 0} where
-  abbrev pub account_of : ℕ → B → List I → List I → List ℕ → Account I B
-  account_of n base seen own asked = record { number = n; base = base; seen = seen; own = own; asked = asked }
+  abbrev pub account_of : ℕ → B → List I → List I → List (ℕ × ℕ) → Account I B
+  account_of n base seen own moves = record { number = n; base = base; seen = seen; own = own; moves = moves }
 
-  -- the account of a pass that has seen and made nothing
+  -- the account of a pass of the start, which has seen and made nothing: it drew its number when as many were out as had numbers below it
   abbrev pub blank : B → ℕ → Account I B
-  blank base n = account_of n base [] [] []
+  blank base n = account_of n base [] [] (drawing (n * 4294967297) ∷ [])
 
   abbrev pub first_of : List (Account I B) → List (Account I B)
   first_of [] = []
@@ -60,9 +84,17 @@ module _ {I B : Type 0} where
   own_in [] = []
   own_in (a ∷ rest) = a.own
 
-  abbrev pub asked_in : List (Account I B) → List ℕ
-  asked_in [] = []
-  asked_in (a ∷ rest) = a.asked
+  abbrev pub moves_in : List (Account I B) → List (ℕ × ℕ)
+  moves_in [] = []
+  moves_in (a ∷ rest) = a.moves
+
+  -- what P says holds of each word that the passes found or left
+  abbrev pub EachWord : (ℕ → Type 0) → List (Account I B) → Type 0
+  EachWord P accounts = All (λ (a : Account I B). All (λ m. P m.0 × P m.1) a.moves) accounts
+
+  -- the roll may come to this word from all words that the passes found or left
+  abbrev pub MayFollow : List (Account I B) → ℕ → Type 0
+  MayFollow accounts word = (out_in word ≤ drawn_in word) × EachWord (λ earlier. Precedes earlier word) accounts
 
   abbrev pub view_of : List (Account I B) → Stage → View I B
   view_of accounts stage = record { accounts = accounts; stage = stage }

@@ -5,9 +5,9 @@ ghost use mathlib.Core.Option.{some};
 ghost use lib.ListN.{get_elem?};
 ghost use Rattle.atomic_table.specs.Table.{State};
 ghost use Rattle.lg_turn.specs.declared.view.View.{View};
-ghost use Rattle.lg_turn.specs.declared.view.Stage.TheVariants.{Holds};
+ghost use Rattle.lg_turn.specs.declared.view.Stage.TheVariants.{Holds, Alone};
 ghost use Rattle.lg_turn.specs.Views.{of_pass, drawn_in, out_in};
-ghost use Rattle.lg_turn.specs.Rule.{IsKept, with_number, out_of};
+ghost use Rattle.lg_turn.specs.Rule.{IsKept, passes_of, with_number, out_of};
 
 use crate::keeps::Keeps;
 
@@ -57,6 +57,20 @@ pub fn no_number_twice<V: Keeps>()
     ensures { (callers : ℕ) (base : V.Base) (s : State _ (View V.Item V.Base)) (i j n : ℕ) (v w : View V.Item V.Base)
         → IsKept V.items V.number V.base callers base s
         → get_elem? s.views i ≡ some v → 0 < with_number n v → get_elem? s.views j ≡ some w → 0 < with_number n w → i ≡ j }
+{}
+
+/// Where the passes of one seat are as many as there are callers no other seat has a pass.
+pub fn all_passes_leave_no_other<V: Keeps>()
+    ensures { (callers : ℕ) (base : V.Base) (s : State _ (View V.Item V.Base)) (i j : ℕ) (v w : View V.Item V.Base)
+        → IsKept V.items V.number V.base callers base s
+        → get_elem? s.views i ≡ some v → callers ≤ passes_of callers v → get_elem? s.views j ≡ some w → i ≢ j → w.accounts ≡ [] }
+{}
+
+/// And where one seat has found that no other pass is out, as `close` does before it ends the turn.
+pub fn alone_leaves_no_other<V: Keeps>()
+    ensures { (callers : ℕ) (base : V.Base) (s : State _ (View V.Item V.Base)) (i j : ℕ) (v w : View V.Item V.Base)
+        → IsKept V.items V.number V.base callers base s
+        → get_elem? s.views i ≡ some v → v.stage ≡ Alone → get_elem? s.views j ≡ some w → i ≢ j → w.accounts ≡ [] }
 {}
 
 /// There are never more passes than callers.

@@ -46,7 +46,7 @@ impl<V: Keeps> Play<Option<V>, View<V::Item, V::Base>> for Advance {
 pub struct Enrol;
 
 impl<V: Keeps> Play<Option<V>, View<V::Item, V::Base>> for Enrol {
-    ghost then = { Enrolls };
+    ghost then = { Enrolls V.number };
 }
 
 pub struct Release;
@@ -58,7 +58,7 @@ impl<V: Keeps> Play<Option<V>, View<V::Item, V::Base>> for Release {
 pub struct Absorb;
 
 impl<V: Keeps> Play<Option<V>, View<V::Item, V::Base>> for Absorb {
-    ghost then = { Absorbs };
+    ghost then = { Absorbs V.number };
 }
 
 pub struct Count;

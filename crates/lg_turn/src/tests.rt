@@ -24,13 +24,13 @@ fn passes_have_the_numbers_from_0_on(rt: HostRuntime) -> Result<(), Fail> {
     Ok(())
 }
 
-// Makes a hundred rounds, with the counts from 0 on. True where there was memory for all of them.
-fn enter_hundred<R: Wait>(rt: &R, turn: &Turn<Rounds>, pass: &mut Pass<Rounds>) -> bool
+// Makes so many rounds, with the counts from 0 on. True where there was memory for all of them.
+fn enter_all<R: Wait>(rt: &R, turn: &Turn<Rounds>, pass: &mut Pass<Rounds>, times: u32) -> bool
     requires turn { IsPassOf turn.now pass.old × IsAway pass.old }
     ensures turn { IsPassOf turn.now pass.new × IsAway pass.new }
 {
     let mut all = true;
-    for count in 0..100 {
+    for count in 0..times {
         if enter(rt, turn, pass, count).is_err() {
             all = false;
         }
@@ -62,7 +62,7 @@ fn two_threads_enter_a_hundred_rounds_each(rt: HostRuntime) -> Result<(), Fail> 
         passes.as_mut_slice(),
         2,
         &|_, pass| {
-            assert!(rt; enter_hundred(&rt, &turn, pass));
+            assert!(rt; enter_all(&rt, &turn, pass, 100));
         },
     );
     let rounds = finish(turn, passes);
@@ -74,6 +74,32 @@ fn two_threads_enter_a_hundred_rounds_each(rt: HostRuntime) -> Result<(), Fail> 
             hundred,
             "{number}"
         );
+    }
+    Ok(())
+}
+
+// Eight threads take and give 5,000 times each, and all of them end. The list has the entries of all, those of each
+// thread in its order.
+#[test]
+fn eight_threads_of_five_thousand_rounds_end(rt: HostRuntime) -> Result<(), Fail> {
+    let rounds = Rounds {
+        first: 1,
+        made: Vec::new(rt.alloc()),
+    };
+    let (turn, mut passes) = Turn::make_all(rt.alloc(), rounds, 8).map_err(|back| back.1)?;
+    for_each_mut(
+        &rt,
+        passes.as_mut_slice(),
+        8,
+        &|_, pass| {
+            assert!(rt; enter_all(&rt, &turn, pass, 5_000));
+        },
+    );
+    let rounds = finish(turn, passes);
+    let all: Vec<u32> = (0..5_000).collect(rt.alloc())?;
+    assert_eq!(rt; rounds.made.len(), 40_000);
+    for number in 0..8 {
+        assert_eq!(rt; counts_of(rt.alloc(), &rounds, number)?, all, "{number}");
     }
     Ok(())
 }
@@ -106,7 +132,7 @@ fn a_split_pass_enters_a_hundred_rounds_too(rt: HostRuntime) -> Result<(), Fail>
         passes.as_mut_slice(),
         2,
         &|_, pass| {
-            assert!(rt; enter_hundred(&rt, &turn, pass));
+            assert!(rt; enter_all(&rt, &turn, pass, 100));
         },
     );
     let Some(second) = passes.pop() else {

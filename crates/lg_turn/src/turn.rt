@@ -5,6 +5,8 @@ mod close;
 mod give;
 mod join;
 mod make;
+#[cfg(test)]
+mod order;
 mod split;
 mod take;
 

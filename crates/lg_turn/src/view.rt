@@ -3,13 +3,13 @@
 use std::collections::LinkedList;
 
 /// What a pass knows of the one list: its base, the beginning that it has seen, and the entries that it made itself;
-/// and the words that it found where it asked how many passes there are, the last one first.
+/// and its moves on the roll, the last one first: of each the word that it found, and the word that it left.
 pub struct Account<I, B> {
     pub number: u64,
     pub base: B,
     pub seen: LinkedList<I>,
     pub own: LinkedList<I>,
-    pub asked: LinkedList<u64>,
+    pub moves: LinkedList<(u64, u64)>,
 }
 
 /// Where a pass stands: away from the turn, waiting with a ticket, or with the value out under a ticket. In proofs a

@@ -1,11 +1,11 @@
 //! How a turn ends: all passes come together again, and with them the value.
 ghost use Rattle.std.specs.Prelude.{◌≡◌, ◌<◌, ◌≤◌, [], length, flat_map, All, Some, IfOk, IfErr};
 ghost use Rattle.lg_turn.specs.declared.view.Stage.TheVariants.{Idle, Alone};
-ghost use Rattle.lg_turn.specs.Views.{BeginsWith, of_pass, view_of, out_in};
+ghost use Rattle.lg_turn.specs.Views.{BeginsWith, of_pass, view_of, out_in, looking};
 ghost use Rattle.lg_turn.specs.Rule.{passes_of, value_count};
 ghost use Rattle.lg_turn.specs.Steps.{HasCounted};
 ghost use Rattle.lg_turn.specs.Closings.{Ends};
-ghost use Rattle.lg_turn.specs.Passes.{number_of, base_of, seen_by, own_of, found_by, IsAway, IsPassOf, IsAsBefore, HasAskedOnce, accounts_of, callers_of, origin_of};
+ghost use Rattle.lg_turn.specs.Passes.{number_of, base_of, seen_by, own_of, found_by, IsAway, IsPassOf, IsAsBefore, HasMovedOnce, accounts_of, callers_of, origin_of};
 
 use super::{ROLL, SeatOf, SharedOf, TableOf, Turn};
 use crate::keeps::Keeps;
@@ -69,7 +69,8 @@ impl<V: Keeps> Turn<V> {
     /// Ends the turn where this pass alone is out, and answers the value. The list for which the value stands begins
     /// with what the pass has seen, and those of its entries that have the number of the pass are its own. Where the
     /// call finds another pass out, and there alone, the turn and the pass come back, and the pass is as before, but
-    /// that it has asked once more. It takes no memory, and waits for nobody.
+    /// for its look at the roll, which comes behind all that it had found or left there. A pass that was dropped is out
+    /// for good. It takes no memory, and waits for nobody.
     pub fn close(self, mut pass: Pass<V>) -> Result<V, (Turn<V>, Pass<V>)>
         requires turn { IsPassOf self pass }
         requires away { IsAway pass }
@@ -77,7 +78,7 @@ impl<V: Keeps> Turn<V> {
         ensures begins { IfOk result (λ value. BeginsWith (V.items value) (seen_by pass)) }
         ensures own { IfOk result (λ value. of_pass V.number (number_of pass) (V.items value) ≡ own_of pass) }
         ensures turn { IfErr result (λ back. (back.0 ≡ self) × IsPassOf self back.1) }
-        ensures same { IfErr result (λ back. IsAsBefore pass back.1 × HasAskedOnce pass back.1) }
+        ensures same { IfErr result (λ back. IsAsBefore pass back.1 × HasMovedOnce looking pass back.1) }
         ensures other { IfErr result (λ back. 1 < out_in (found_by back.1)) }
     {
         let word = count(&self.table.shared, &mut pass.seat);

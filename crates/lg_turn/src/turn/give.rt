@@ -4,7 +4,7 @@ ghost use Rattle.lg_turn.specs.declared.view.Stage.TheVariants.{Idle};
 ghost use Rattle.lg_turn.specs.Views.{of_pass, view_of};
 ghost use Rattle.lg_turn.specs.Rule.{Fits};
 ghost use Rattle.lg_turn.specs.Steps.{MayGive, after_give};
-ghost use Rattle.lg_turn.specs.Passes.{number_of, base_of, seen_by, own_of, IsAway, HasTurn, IsPassOf, IsSamePass, AddsAtMostOne};
+ghost use Rattle.lg_turn.specs.Passes.{number_of, base_of, seen_by, own_of, moves_by, IsAway, HasTurn, IsPassOf, IsSamePass, AddsAtMostOne};
 
 use super::{SERVING, SeatOf, SharedOf, Turn};
 use crate::keeps::Keeps;
@@ -46,6 +46,7 @@ impl<V: Keeps> Turn<V> {
         requires base { base_of pass.old ≡ Some (V.base value) }
         requires added { AddsAtMostOne V.number (number_of pass.old) (seen_by pass.old) (V.items value) }
         ensures same { IsSamePass pass.old pass.new }
+        ensures moves { moves_by pass.new ≡ moves_by pass.old }
         ensures away { IsAway pass.new }
         ensures seen { seen_by pass.new ≡ V.items value }
         ensures added { own_of pass.new ≡ own_of pass.old ++ drop (length (seen_by pass.old)) (V.items value) }

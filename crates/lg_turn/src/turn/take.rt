@@ -3,7 +3,7 @@ ghost use Rattle.std.specs.Prelude.{◌≡◌, ◌≢◌, ◌<◌, [], ◌∷◌
 ghost use Rattle.lg_turn.specs.declared.view.Stage.TheVariants.{Idle};
 ghost use Rattle.lg_turn.specs.Views.{BeginsWith, of_pass};
 ghost use Rattle.lg_turn.specs.Steps.{HasDrawn, HasTicket, HasTaken};
-ghost use Rattle.lg_turn.specs.Passes.{number_of, base_of, seen_by, own_of, IsAway, HasTurn, IsPassOf, IsSamePass};
+ghost use Rattle.lg_turn.specs.Passes.{number_of, base_of, seen_by, own_of, moves_by, IsAway, HasTurn, IsPassOf, IsSamePass};
 
 use super::{SERVING, SeatOf, SharedOf, TICKET, Turn};
 use crate::keeps::Keeps;
@@ -71,6 +71,7 @@ impl<V: Keeps> Turn<V> {
         requires turn { IsPassOf self.now pass.old }
         requires away { IsAway pass.old }
         ensures same { IsSamePass pass.old pass.new × (own_of pass.new ≡ own_of pass.old) }
+        ensures moves { moves_by pass.new ≡ moves_by pass.old }
         ensures has { HasTurn pass.new }
         ensures base { base_of pass.old ≡ Some (V.base result) }
         ensures begins { BeginsWith (V.items result) (seen_by pass.old) }

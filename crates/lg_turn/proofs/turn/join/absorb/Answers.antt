@@ -23,7 +23,7 @@ fetch_sub-requires g c =
       omega (arith, c.requires.turn.1),
       subst
           (λ (me : Me (Option g.row.V.Denot) (View g.row.V-Item.Denot g.row.V-Base.Denot)).
-          Allows (IsKept k.items k.number k.base terms.callers (k.base terms.first.value)) slots seat.id me 2 (λ n. (n + (2 ^ 64 - 1)) % 2 ^ 64) (Absorbs (step slots 2 1 0 none) me))
+          Allows (IsKept k.items k.number k.base terms.callers (k.base terms.first.value)) slots seat.id me 2 (λ n. (n + (2 ^ 64 - 1)) % 2 ^ 64) (Absorbs k.number (step slots 2 1 0 none) me))
           (sym is)
           (absorbs k.items k.number k.base terms.callers (k.base terms.first.value) slots seat.id two.0 two.1),
     )

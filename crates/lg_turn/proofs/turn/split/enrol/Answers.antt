@@ -17,7 +17,7 @@ fetch_add-requires g c =
       omega (arith, c.requires.turn.1),
       subst
           (λ (me : Me (Option g.row.V.Denot) (View g.row.V-Item.Denot g.row.V-Base.Denot)).
-          Allows (IsKept k.items k.number k.base terms.callers (k.base terms.first.value)) slots seat.id me 2 (λ n. (n + 4294967297) % 2 ^ 64) (Enrolls (step slots 2 4294967297 0 none) me))
+          Allows (IsKept k.items k.number k.base terms.callers (k.base terms.first.value)) slots seat.id me 2 (λ n. (n + 4294967297) % 2 ^ 64) (Enrolls k.number (step slots 2 4294967297 0 none) me))
           (sym c.requires.away.1)
           (enrols k.items k.number k.base terms.callers (k.base terms.first.value) slots seat.id seat.me.0.accounts c.requires.away.0),
     )
