@@ -4,10 +4,12 @@ pub mod Tells
 pub mod Source
 pub mod Sink
 pub mod Writes
+pub mod Adapters
 pub mod Clock
 pub mod Link
 pub mod Door
 pub mod DoorSeen
+pub mod StdioDoor
 pub mod Net
 pub mod MemoryClock
 pub mod MemoryDoor
@@ -15,5 +17,3 @@ pub mod MemoryNet
 pub mod Files
 pub mod MemoryFiles
 pub mod FileEvent
-pub mod Adapters
-pub mod StdioDoor
