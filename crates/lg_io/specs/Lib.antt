@@ -9,6 +9,7 @@ pub mod Link
 pub mod Door
 pub mod DoorSeen
 pub mod Net
+pub mod Files
 pub mod FaultPlan
 pub mod CallList
 pub mod MemorySource
@@ -17,10 +18,9 @@ pub mod MemoryClock
 pub mod MemoryNumbers
 pub mod MemoryDoor
 pub mod MemoryNet
-pub mod Files
 pub mod MemoryFiles
 pub mod FileEvent
-pub mod Adapters
-pub mod StdioDoor
 pub mod Appearances
 pub mod FileScript
+pub mod Adapters
+pub mod StdioDoor

@@ -25,7 +25,6 @@ pub use adapters::{
 pub use clock::Clock;
 pub use door::{Accept, Door};
 pub use files::{FileRead, Files};
-use lg_base::Tally as FaultCount;
 pub use link::Link;
 pub use memory::{
     Answer, Appearance, BindEvent, CallList, ClockEvent, FaultList, FaultPlan, MemoryClock,

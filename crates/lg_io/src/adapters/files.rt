@@ -2,8 +2,8 @@ ghost use Rattle.std.specs.Prelude.{◌≡◌, ◌^◌, ◌-◌, ◌<◌, ◌≤
 ghost use Rattle.lg_io.specs.Adapters.{IsFoundWithin, file_read_of};
 ghost use Rattle.lg_io.specs.Cause.{HasCause};
 
-use crate::{FaultCount, FileRead, Files};
-use lg_base::{Failed, Text};
+use crate::{FileRead, Files};
+use lg_base::{Failed, Tally, Text};
 use std::alloc::Global;
 use std::fs::{self, OpenOptions};
 use std::io::{self, ErrorKind, Read, Write};
@@ -16,7 +16,7 @@ const MOST_BYTES: u64 = 1 << 30;
 #[derive(Drop)]
 pub struct DiskFiles<R> {
     runtime: R,
-    faults: FaultCount,
+    faults: Tally,
 }
 
 impl<R: rt::Files> DiskFiles<R> {
@@ -26,7 +26,7 @@ impl<R: rt::Files> DiskFiles<R> {
     {
         DiskFiles {
             runtime,
-            faults: FaultCount::none(),
+            faults: Tally::none(),
         }
     }
 

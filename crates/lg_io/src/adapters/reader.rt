@@ -6,7 +6,8 @@ ghost use Rattle.lg_io.specs.Cause.{HasCause};
 ghost use Rattle.lg_io.specs.Rest.{nothing};
 ghost use Rattle.lg_io.specs.Source.{given, is_end, FitsBuffer};
 
-use crate::{FaultCount, ReadStep, Source};
+use crate::{ReadStep, Source};
+use lg_base::Tally;
 use std::io::{self, ErrorKind, Read};
 
 /// A source over a reader. A read that would block, ran out of its time or was interrupted is quiet. Behind its end it
@@ -15,7 +16,7 @@ use std::io::{self, ErrorKind, Read};
 pub struct ReaderSource<R> {
     reader: R,
     is_ended: bool,
-    faults: FaultCount,
+    faults: Tally,
 }
 
 impl<R: Read> ReaderSource<R> {
@@ -28,7 +29,7 @@ impl<R: Read> ReaderSource<R> {
         ReaderSource {
             reader,
             is_ended: false,
-            faults: FaultCount::none(),
+            faults: Tally::none(),
         }
     }
 }

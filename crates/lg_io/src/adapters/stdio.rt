@@ -8,8 +8,8 @@ ghost use Rattle.lg_io.specs.Rest.{of_door};
 ghost use Rattle.lg_io.specs.Tells.{TellsOn};
 
 use super::{ReaderSource, WriterSink};
-use crate::{Accept, BindFault, Clock, Door, FaultCount, Net, PairLink};
-use lg_base::{Moment, Text};
+use crate::{Accept, BindFault, Clock, Door, Net, PairLink};
+use lg_base::{Moment, Tally, Text};
 use std::alloc::Global;
 use std::io::{Read, Write};
 
@@ -116,7 +116,7 @@ where
 #[derive(Drop)]
 pub struct StdioNet<R, W, K> {
     parts: Option<(R, W, K)>,
-    faults: FaultCount,
+    faults: Tally,
 }
 
 impl<R, W, K> StdioNet<R, W, K>
@@ -132,7 +132,7 @@ where
     {
         StdioNet {
             parts: Some((reader, writer, clock)),
-            faults: FaultCount::none(),
+            faults: Tally::none(),
         }
     }
 }

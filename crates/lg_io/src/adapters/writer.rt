@@ -5,14 +5,15 @@ ghost use Rattle.lg_io.specs.Cause.{HasCause};
 ghost use Rattle.lg_io.specs.Rest.{nothing};
 ghost use Rattle.lg_io.specs.Sink.{FitsPiece};
 
-use crate::{FaultCount, Sink, WriteStep};
+use crate::{Sink, WriteStep};
+use lg_base::Tally;
 use std::io::Write;
 
 /// A sink over a writer, which is flushed after each piece.
 #[derive(Drop)]
 pub struct WriterSink<W> {
     writer: W,
-    faults: FaultCount,
+    faults: Tally,
 }
 
 impl<W: Write> WriterSink<W> {
@@ -23,7 +24,7 @@ impl<W: Write> WriterSink<W> {
     {
         WriterSink {
             writer,
-            faults: FaultCount::none(),
+            faults: Tally::none(),
         }
     }
 }

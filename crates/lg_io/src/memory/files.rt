@@ -7,8 +7,8 @@ ghost use Rattle.lg_io.specs.Files.{HasGrown, present, file_map_code};
 
 use super::shelf::leave;
 use super::{FaultPlan, FileEvent, FileHistory, Shelf};
-use crate::{FaultCount, FileRead, Files};
-use lg_base::{Failed, NoMemory, Text};
+use crate::{FileRead, Files};
+use lg_base::{Failed, NoMemory, Tally, Text};
 use std::alloc::Global;
 use std::collections::VecDeque;
 
@@ -30,7 +30,7 @@ pub struct MemoryFiles<P> {
     plan: P,
     coming: VecDeque<Appearance>,
     calls: u64,
-    late: FaultCount,
+    late: Tally,
     history: FileHistory,
     ghost is_present: { present history.maps ≡ shelf.log } by { Prim.hlevel (Coded-set file_map_code) },
 }
@@ -56,7 +56,7 @@ impl<P: FaultPlan> MemoryFiles<P> {
             plan,
             coming: VecDeque::from_vec(coming),
             calls: 0,
-            late: FaultCount::none(),
+            late: Tally::none(),
             history,
         }
     }

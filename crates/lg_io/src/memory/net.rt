@@ -7,8 +7,8 @@ ghost use Rattle.lg_io.specs.MemoryNet.{net_log, net_binds, net_faults, net_door
 ghost use Rattle.lg_io.specs.Tells.{TellsOn};
 
 use super::{CallList, FaultPlan, MemoryDoor};
-use crate::{BindFault, Clock, FaultCount, Net};
-use lg_base::{NoMemory, Text};
+use crate::{BindFault, Clock, Net};
+use lg_base::{NoMemory, Tally, Text};
 use std::alloc::Global;
 use std::mem;
 
@@ -25,7 +25,7 @@ pub struct BindEvent {
 pub struct MemoryNet<P> {
     doors: Vec<MemoryDoor<P>>,
     plan: P,
-    lacks: FaultCount,
+    lacks: Tally,
     binds: CallList<BindEvent>,
 }
 
@@ -47,7 +47,7 @@ impl<P: FaultPlan> MemoryNet<P> {
             binds: CallList::with_room(alloc, room)?,
             doors,
             plan,
-            lacks: FaultCount::none(),
+            lacks: Tally::none(),
         })
     }
 

@@ -4,8 +4,8 @@ ghost use Rattle.lg_io.specs.Cause.{FailsBy};
 ghost use Rattle.lg_io.specs.Files.{Does, read, create, append, rename, remove, exists, read_answer, done_answer, exists_answer};
 
 use super::FileLog;
-use crate::{FaultCount, FileRead};
-use lg_base::{Failed, Text};
+use crate::FileRead;
+use lg_base::{Failed, Tally, Text};
 use std::alloc::Global;
 
 /// Files in memory, and how many of their calls found no memory, or not the file that they named. Each call is told
@@ -14,7 +14,7 @@ use std::alloc::Global;
 pub struct Shelf {
     pub alloc: Global,
     pub log: FileLog,
-    pub wants: FaultCount,
+    pub wants: Tally,
 }
 
 impl Shelf {
@@ -26,7 +26,7 @@ impl Shelf {
         Shelf {
             alloc,
             log: FileLog::new(alloc),
-            wants: FaultCount::none(),
+            wants: Tally::none(),
         }
     }
 

@@ -6,7 +6,8 @@ ghost use Rattle.lg_io.specs.Rest.{nothing};
 ghost use Rattle.lg_io.specs.Sink.{FitsPiece, Takes, taken_of};
 
 use super::FaultPlan;
-use crate::{FaultCount, Sink, WriteStep};
+use crate::{Sink, WriteStep};
+use lg_base::Tally;
 use std::alloc::Global;
 
 /// A sink that keeps what it takes. A write for which it finds no memory fails.
@@ -16,7 +17,7 @@ pub struct MemorySink<P> {
     /// How many bytes it takes at most in a write; it takes one where this is 0.
     pub most: usize,
     plan: P,
-    wants: FaultCount,
+    wants: Tally,
 }
 
 impl<P: FaultPlan> MemorySink<P> {
@@ -31,7 +32,7 @@ impl<P: FaultPlan> MemorySink<P> {
             bytes: Vec::new(alloc),
             most,
             plan,
-            wants: FaultCount::none(),
+            wants: Tally::none(),
         }
     }
 
@@ -65,7 +66,7 @@ impl<P: FaultPlan> MemorySink<P> {
     {
         self.bytes.clear();
         self.plan.restart();
-        self.wants = FaultCount::none();
+        self.wants = Tally::none();
     }
 }
 
