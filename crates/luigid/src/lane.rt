@@ -60,11 +60,11 @@ fn next_link<R: Wait, D: Door>(rt: &R, alloc: Global, door: &mut D) -> Accept<D:
     ensures loud { result ≢ Quiet }
     ensures told { D.door door.new ≡ option_map (accepted (accept_kind result)) (D.door door.old) }
     ensures fresh { IfConn result (λ link. IsFresh (D.door door.old) record {
-          received = D.Conn.received link;
-          taken = D.Conn.taken link;
-          read_faults = D.Conn.Source.faults link;
-          write_faults = D.Conn.Sink.faults link;
-        }) }
+      received = D.Conn.received link;
+      taken = D.Conn.taken link;
+      read_faults = D.Conn.Source.faults link;
+      write_faults = D.Conn.Sink.faults link;
+    }) }
     ensures calls { D.calls door.new ≡ D.calls door.old }
 {
     for _ in rt.forever() {
