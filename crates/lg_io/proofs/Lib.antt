@@ -4,3 +4,4 @@ pub mod FilesOf
 pub mod NoFields
 pub mod Grown
 pub mod Called
+pub mod CallerLemmas

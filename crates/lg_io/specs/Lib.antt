@@ -5,7 +5,9 @@ pub mod Source
 pub mod Sink
 pub mod Writes
 pub mod Clock
+pub mod Link
 pub mod Door
+pub mod DoorSeen
 pub mod Net
 pub mod MemoryClock
 pub mod MemoryDoor

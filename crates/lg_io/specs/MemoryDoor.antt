@@ -6,7 +6,8 @@ use Rattle.lg_io.specs.declared.memory.door.MemoryDoor.{MemoryDoor}
 use Rattle.lg_io.specs.declared.memory.sink.MemorySink.{MemorySink}
 use Rattle.lg_io.specs.declared.memory.source.MemorySource.{MemorySource}
 use Rattle.lg_io.specs.declared.pair.PairLink.{PairLink}
-use Rattle.lg_io.specs.Door.{AcceptKind, conn, quiet, closed, failed, no_memory, EndedLink, DoorTold}
+use Rattle.lg_io.specs.Link.{EndedLink}
+use Rattle.lg_io.specs.Door.{AcceptKind, conn, quiet, closed, failed, no_memory, DoorTold}
 
 -- the kind of an answer that a door keeps
 abbrev pub answer_kind : Answer → AcceptKind

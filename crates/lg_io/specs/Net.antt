@@ -1,5 +1,5 @@
 -- What a net was asked. This project's own.
-use Rattle.std.specs.Prelude.{◌≡◌, ℕ, List, [], Option, IfSome}
+use Rattle.std.specs.Prelude.{◌≡◌, ℕ, Bool, false, List, [], Option, IfSome}
 use Rattle.lg_io.specs.Door.{DoorTold, unused_door}
 use Rattle.lg_io.specs.Clock.{ClockCall}
 
@@ -9,8 +9,9 @@ pub record BindCall : Type 0 where
   pub port : ℕ
   pub doors : ℕ
 
--- A door that nobody used: what it and its clock tell, the clock's last moment, and its faults.
-pub record IsUnused (door : Option DoorTold) (calls : Option (List ClockCall)) (faults : ℕ) : Type 0 where
+-- A door that nobody used: what it and its clock tell, its faults, and whether it is closed.
+pub record IsUnused (door : Option DoorTold) (calls : Option (List ClockCall)) (faults : ℕ) (is_closed : Bool) : Type 0 where
   pub did_nothing : IfSome door (λ d. d ≡ unused_door)
   pub read_nothing : IfSome calls (λ c. c ≡ [])
   pub met_nothing : faults ≡ 0
+  pub answered_nothing : is_closed ≡ false

@@ -20,6 +20,13 @@ given End buffer = []
 given Quiet buffer = []
 given Failed buffer = []
 
+-- whether an answer is the end
+abbrev pub is_end : ReadStep → Bool
+is_end (Bytes count) = false
+is_end End = true
+is_end Quiet = false
+is_end Failed = false
+
 -- what a source gave, after one more answer
 abbrev pub received_after : ReadStep → List ℕ → Received → Received
 received_after (Bytes count) buffer r =

@@ -1,7 +1,7 @@
-ghost use Rattle.std.specs.Prelude.{◌≡◌, ℕ, ◌+◌, ◌≤◌, Option, Some, length, option_map, IfSome};
+ghost use Rattle.std.specs.Prelude.{◌≡◌, ℕ, ◌≤◌, Bool, ◌||◌, true, false, Option, Some, length, option_map, IfSome, IsTrue};
 ghost use Rattle.lg_io.specs.declared.door.Accept.TheVariants.{Closed, Failed};
 ghost use Rattle.lg_io.specs.Cause.{HasCause};
-ghost use Rattle.lg_io.specs.Door.{DoorTold, closed, accept_kind, accepted, told_done, IfConn, IsFresh, HasLinkOut};
+ghost use Rattle.lg_io.specs.Door.{DoorTold, closed, accept_kind, is_closing, accepted, told_done, IfConn, IsFresh, HasLinkOut};
 ghost use Rattle.lg_io.specs.Rest.{of_door};
 
 use crate::{Clock, Link};
@@ -31,15 +31,24 @@ pub trait Door: Clock + Send {
     /// where it tells.
     ghost door: { Self → Option DoorTold };
 
+    /// Whether it answered that it is closed.
+    ghost is_closed: { Self → Bool };
+
     /// How many of its calls of `accept` met a fault.
     ghost faults: { Self → ℕ };
 
     /// The next link, if one came.
     fn accept(&mut self, alloc: Global) -> Accept<Self::Conn>
         ensures told { door self.new ≡ option_map (accepted (accept_kind result)) (door self.old) }
-        ensures fresh { IfConn result (λ link. IsFresh (door self.old) (Self.Conn.received link) (Self.Conn.taken link)
-            (Self.Conn.Source.faults link) (Self.Conn.Sink.faults link)) }
-        ensures closed { IfSome (door self.old) (λ d. d.last ≡ Some closed → result ≡ Closed) }
+        ensures fresh { IfConn result (λ link. IsFresh (door self.old) (record {
+          received = Self.Conn.received link;
+          taken = Self.Conn.taken link;
+          read_faults = Self.Conn.Source.faults link;
+          write_faults = Self.Conn.Sink.faults link;
+        })) }
+        ensures unended { IfConn result (λ link. Self.Conn.is_over link ≡ false) }
+        ensures closed { IsTrue (is_closed self.old) → result ≡ Closed }
+        ensures closes { is_closed self.new ≡ (is_closed self.old || is_closing (accept_kind result)) }
         ensures cause { HasCause (faults self.old) (faults self.new) (result ≡ Failed) }
         ensures calls { Self.calls self.new ≡ Self.calls self.old }
         ensures latest { Self.latest self.new ≡ Self.latest self.old };
@@ -47,14 +56,22 @@ pub trait Door: Clock + Send {
     /// Takes a link back.
     fn done(&mut self, link: Self::Conn)
         requires { HasLinkOut (door self.old) }
-        ensures told { door self.new ≡ told_done (Self.Conn.received link) (Self.Conn.taken link)
-            (Self.Conn.Source.faults link + Self.Conn.Sink.faults link) (door self.old) }
+        ensures told { door self.new ≡ told_done (record {
+          received = Self.Conn.received link;
+          taken = Self.Conn.taken link;
+          read_faults = Self.Conn.Source.faults link;
+          write_faults = Self.Conn.Sink.faults link;
+        }) (door self.old) }
+        ensures closed { is_closed self.new ≡ is_closed self.old }
         ensures faults { faults self.new ≡ faults self.old }
         ensures calls { Self.calls self.new ≡ Self.calls self.old }
         ensures latest { Self.latest self.new ≡ Self.latest self.old };
 
     /// A reading or a pause changes nothing of what the door tells.
-    ghost clock_rest: { (d : Self) → Self.rest d ≡ of_door (door d) (faults d) };
+    ghost clock_rest: { (d : Self) → Self.rest d ≡ of_door (door d) (faults d) (is_closed d) };
+
+    /// Where it tells that its last answer was that it is closed, it is.
+    ghost tells_its_close: { (d : Self) → IfSome (door d) (λ told. told.last ≡ Some closed → is_closed d ≡ true) };
 
     /// No more links are handed back than were handed out.
     ghost no_more_ended: { (d : Self) → IfSome (door d) (λ told. length told.ended ≤ told.handed) };

@@ -9,5 +9,5 @@ pub trait Link: Source + Sink {
     ghost source_rest: { (link : Self) → Self.Source.rest link ≡ of_sink (Self.taken link) (Self.Sink.faults link) };
 
     /// A write changes nothing of what the source tells.
-    ghost sink_rest: { (link : Self) → Self.Sink.rest link ≡ of_source (Self.received link) (Self.Source.faults link) };
+    ghost sink_rest: { (link : Self) → Self.Sink.rest link ≡ of_source (Self.received link) (Self.Source.faults link) (Self.is_over link) };
 }

@@ -34,7 +34,8 @@ pub trait Net {
         n: u16,
     ) -> Result<Vec<Self::Door>, BindFault>
         ensures count { IfOk result (λ doors. length doors.items ≡ n) }
-        ensures unused { IfOk result (λ doors. All (λ d. IsUnused (Self.Door.door d) (Self.Door.calls d) (Self.Door.faults d)) doors.items) }
+        ensures unused { IfOk result (λ doors. All (λ d.
+            IsUnused (Self.Door.door d) (Self.Door.calls d) (Self.Door.faults d) (Self.Door.is_closed d)) doors.items) }
         ensures told { TellsOn (binds self.old) (binds self.new) (record { address = address.now; port = port; doors = n } ∷ []) }
         ensures cause { HasCause (faults self.old) (faults self.new) (IsErrOf result Failed) };
 }

@@ -13,6 +13,8 @@ pub struct PairLink<S, K> {
 impl<S: Source, K: Sink> Source for PairLink<S, K> {
     ghost received = { λ l. S.received l.source };
 
+    ghost is_over = { λ l. S.is_over l.source };
+
     ghost faults = { λ l. S.faults l.source };
 
     ghost rest = { λ l. of_sink (K.taken l.sink) (K.faults l.sink) };
@@ -20,6 +22,8 @@ impl<S: Source, K: Sink> Source for PairLink<S, K> {
     fn read(&mut self, buf: &mut [u8]) -> ReadStep {
         self.source.read(buf)
     }
+
+    ghost tells_its_end = { λ l. S.tells_its_end l.source };
 }
 
 impl<S: Source, K: Sink> Sink for PairLink<S, K> {
@@ -27,7 +31,7 @@ impl<S: Source, K: Sink> Sink for PairLink<S, K> {
 
     ghost faults = { λ l. K.faults l.sink };
 
-    ghost rest = { λ l. of_source (S.received l.source) (S.faults l.source) };
+    ghost rest = { λ l. of_source (S.received l.source) (S.faults l.source) (S.is_over l.source) };
 
     fn write(&mut self, piece: &[u8]) -> WriteStep {
         self.sink.write(piece)

@@ -1,4 +1,4 @@
-ghost use Rattle.std.specs.Prelude.{◌≡◌, ℕ, None};
+ghost use Rattle.std.specs.Prelude.{◌≡◌, ℕ, None, false};
 ghost use Rattle.lg_io.specs.Rest.{nothing};
 
 use crate::{FaultCount, ReadStep, Source};
@@ -15,7 +15,8 @@ pub struct ReaderSource<R> {
 impl<R: Read> ReaderSource<R> {
     /// A source that nobody read.
     pub fn new(reader: R) -> ReaderSource<R>
-        ensures { ⟦<ReaderSource<R> as Source>⟧.faults result ≡ 0 }
+        ensures unended { ⟦<ReaderSource<R> as Source>⟧.is_over result ≡ false }
+        ensures faults { ⟦<ReaderSource<R> as Source>⟧.faults result ≡ 0 }
     {
         ReaderSource {
             reader,
@@ -27,6 +28,8 @@ impl<R: Read> ReaderSource<R> {
 
 impl<R: Read> Source for ReaderSource<R> {
     ghost received = { λ _. None };
+
+    ghost is_over = { λ s. s.is_ended };
 
     ghost faults = { λ s. s.faults.met };
 
@@ -53,4 +56,6 @@ impl<R: Read> Source for ReaderSource<R> {
             },
         }
     }
+
+    ghost tells_its_end = { λ s. tt };
 }

@@ -1,4 +1,4 @@
-ghost use Rattle.std.specs.Prelude.{◌≡◌, ℕ, None, refl};
+ghost use Rattle.std.specs.Prelude.{◌≡◌, ℕ, None, IsTrue, false, refl};
 ghost use Rattle.lg_io.specs.Rest.{of_door};
 
 use super::{ReaderSource, WriterSink};
@@ -11,7 +11,22 @@ use std::io::{Read, Write};
 #[derive(Drop)]
 pub struct StdioDoor<R, W, K> {
     streams: Option<(R, W)>,
+    is_closed: bool,
     clock: K,
+    ghost gone: { IsTrue is_closed → streams ≡ None },
+}
+
+impl<R, W, K> StdioDoor<R, W, K> {
+    // A door that nobody used.
+    fn new(reader: R, writer: W, clock: K) -> StdioDoor<R, W, K>
+        ensures { result.is_closed ≡ false }
+    {
+        StdioDoor {
+            streams: Some((reader, writer)),
+            is_closed: false,
+            clock,
+        }
+    }
 }
 
 impl<R: Read + Drop, W: Write + Drop, K: Clock> Clock for StdioDoor<R, W, K> {
@@ -19,7 +34,7 @@ impl<R: Read + Drop, W: Write + Drop, K: Clock> Clock for StdioDoor<R, W, K> {
 
     ghost latest = { λ d. K.latest d.clock };
 
-    ghost rest = { λ _. of_door None 0 };
+    ghost rest = { λ d. of_door None 0 d.is_closed };
 
     fn now(&mut self) -> Moment {
         self.clock.now()
@@ -40,6 +55,8 @@ where
 
     ghost door = { λ _. None };
 
+    ghost is_closed = { λ d. d.is_closed };
+
     ghost faults = { λ _. 0 };
 
     fn accept(&mut self, _alloc: Global) -> Accept<PairLink<ReaderSource<R>, WriterSink<W>>> {
@@ -48,13 +65,18 @@ where
                 source: ReaderSource::new(reader),
                 sink: WriterSink::new(writer),
             }),
-            None => Accept::Closed,
+            None => {
+                self.is_closed = true;
+                Accept::Closed
+            }
         }
     }
 
     fn done(&mut self, _link: PairLink<ReaderSource<R>, WriterSink<W>>) {}
 
     ghost clock_rest = { λ d. refl };
+
+    ghost tells_its_close = { λ d. tt };
 
     ghost no_more_ended = { λ d. tt };
 }
@@ -63,7 +85,7 @@ where
 /// no port. A `bind` of another number of doors, or behind the first, fails.
 #[derive(Drop)]
 pub struct StdioNet<R, W, K> {
-    door: Option<StdioDoor<R, W, K>>,
+    parts: Option<(R, W, K)>,
     faults: FaultCount,
 }
 
@@ -78,10 +100,7 @@ where
         ensures { ⟦<StdioNet<R, W, K> as Net>⟧.faults result ≡ 0 }
     {
         StdioNet {
-            door: Some(StdioDoor {
-                streams: Some((reader, writer)),
-                clock,
-            }),
+            parts: Some((reader, writer, clock)),
             faults: FaultCount::none(),
         }
     }
@@ -110,9 +129,9 @@ where
             return Err(BindFault::NoMemory);
         };
         if n == 1
-            && let Some(door) = self.door.take()
+            && let Some((reader, writer, clock)) = self.parts.take()
         {
-            return match doors.push(door) {
+            return match doors.push(StdioDoor::new(reader, writer, clock)) {
                 Ok(()) => Ok(doors),
                 Err(_) => Err(BindFault::NoMemory),
             };

@@ -1,6 +1,6 @@
 ghost use Rattle.std.specs.Prelude.{◌≡◌, ℕ, ◌+◌, ◌^◌, ◌<◌, ◌≤◌, map, option_map, Some, None, [], length, vec_len, vec_capacity, refl};
 ghost use Rattle.std.specs.Vec.Iter.{into_iter_len};
-ghost use Rattle.lg_io.specs.Door.{EndedLink, unused_door};
+ghost use Rattle.lg_io.specs.Door.{unused_door};
 
 use super::{ClockEvent, FaultPlan, MemoryClock, MemoryLink};
 use crate::{Accept, Clock, Door};
@@ -97,14 +97,15 @@ impl<P: FaultPlan> MemoryDoor<P> {
 
 impl<P: FaultPlan> Clock for MemoryDoor<P> {
     ghost use Rattle.lg_io.specs.Rest.{of_door};
-    ghost use Rattle.lg_io.specs.MemoryDoor.{door_told};
+    ghost use Rattle.lg_io.specs.Door.{closed_by};
+    ghost use Rattle.lg_io.specs.MemoryDoor.{door_told, answer_kind};
     ghost use Rattle.std.specs.Prelude.{Option};
 
     ghost calls = { λ d. ⟦<MemoryClock as Clock>⟧.calls d.clock };
 
     ghost latest = { λ d. ⟦<MemoryClock as Clock>⟧.latest d.clock };
 
-    ghost rest = { λ d. of_door (door_told P.faults d) (P.faults d.plan) };
+    ghost rest = { λ d. of_door (door_told P.faults d) (P.faults d.plan) (closed_by (option_map answer_kind d.last)) };
 
     fn now(&mut self) -> Moment {
         self.clock.now()
@@ -116,13 +117,16 @@ impl<P: FaultPlan> Clock for MemoryDoor<P> {
 }
 
 impl<P: FaultPlan + Send> Door for MemoryDoor<P> {
-    ghost use Rattle.lg_io.specs.MemoryDoor.{door_told, link_did};
-    ghost use Rattle.std.proofs.Common.{refl, arith};
+    ghost use Rattle.lg_io.specs.Door.{closed_by};
+    ghost use Rattle.lg_io.specs.MemoryDoor.{door_told, link_did, answer_kind};
+    ghost use Rattle.std.proofs.Common.{refl, ap, arith};
     ghost use Rattle.std.proofs.lemmas.List.{length-map};
 
     type Conn = MemoryLink<P>;
 
     ghost door = { door_told P.faults };
+
+    ghost is_closed = { λ d. closed_by (option_map answer_kind d.last) };
 
     ghost faults = { λ d. P.faults d.plan };
 
@@ -164,6 +168,8 @@ impl<P: FaultPlan + Send> Door for MemoryDoor<P> {
     }
 
     ghost clock_rest = { λ d. refl };
+
+    ghost tells_its_close = { λ d is. ap closed_by is };
 
     ghost no_more_ended = { λ d. Prim.omega (arith, length-map d.ended.items (link_did P.faults), d.back, d.ended.ok.0) };
 }

@@ -1,5 +1,6 @@
 ghost use Rattle.std.specs.Prelude.{◌≡◌, ℕ, ◌+◌, All, option_map, map, Some, [], IfOk, length};
-ghost use Rattle.lg_io.specs.MemoryDoor.{door_told};
+ghost use Rattle.lg_io.specs.Door.{closed_by};
+ghost use Rattle.lg_io.specs.MemoryDoor.{answer_kind, door_told};
 ghost use Rattle.lg_io.specs.Net.{IsUnused};
 
 use super::{CallList, FaultPlan, MemoryDoor};
@@ -96,7 +97,8 @@ impl<P: FaultPlan + Send> Net for MemoryNet<P> {
 
 /// Begins each door anew.
 fn restart_all<P: FaultPlan>(doors: &mut [MemoryDoor<P>])
-    ensures unused { All (λ d. IsUnused (door_told P.faults d) (⟦<MemoryDoor<P> as Clock>⟧.calls d) (P.faults d.plan)) doors.new }
+    ensures unused { All (λ d.
+        IsUnused (door_told P.faults d) (⟦<MemoryDoor<P> as Clock>⟧.calls d) (P.faults d.plan) (closed_by (option_map answer_kind d.last))) doors.new }
     ensures count { length doors.new ≡ length doors.old }
 {
     for door in doors.iter_mut() {

@@ -1,4 +1,4 @@
-ghost use Rattle.std.specs.Prelude.{◌≡◌, ℕ, ◌≤◌, ◌<◌, List, length, take, min, max, Some, None, IfSome, IsTrue, false, vec_len};
+ghost use Rattle.std.specs.Prelude.{◌≡◌, ℕ, ◌≤◌, ◌<◌, List, length, take, min, max, Some, None, IfSome, IsTrue, false, vec_len, refl};
 ghost use Rattle.lg_io.specs.Rest.{nothing};
 ghost use Rattle.lg_io.specs.Source.{nothing_received};
 
@@ -90,6 +90,8 @@ impl<P: FaultPlan> MemorySource<P> {
 impl<P: FaultPlan> Source for MemorySource<P> {
     ghost received = { λ s. Some (record { bytes = take s.at s.input.items; ended = s.is_ended; quiets = s.quiets }) };
 
+    ghost is_over = { λ s. s.is_ended };
+
     ghost faults = { λ s. P.faults s.plan };
 
     ghost rest = { λ _. nothing };
@@ -123,6 +125,8 @@ impl<P: FaultPlan> Source for MemorySource<P> {
         self.quiets = 0;
         ReadStep::Bytes(count)
     }
+
+    ghost tells_its_end = { λ s. refl };
 }
 
 /// Copies a front of `from` to the front of `buf`: at most `most` bytes, but one where `most` is 0.

@@ -1,7 +1,8 @@
-use Rattle.std.proofs.Common.{◌≡◌, ◌<◌, IfSome, length, [], refl, sym, subst, arith}
+use Rattle.std.proofs.Common.{◌≡◌, ◌<◌, Option, IfSome, false, length, [], refl, sym, ap, subst, arith}
+use Rattle.std.specs.Option.{option_map_or}
 use Rattle.std.proofs.lemmas.List.{take_more_set, take_all}
 use Rattle.std.proofs.lemmas.List.Elements.{All-push, All-same}
-use Rattle.lg_io.specs.Door.{unused_door}
+use Rattle.lg_io.specs.Door.{DoorTold, unused_door, closed_by}
 use Rattle.lg_io.proofs.memory.net.restart_all.Invariants.{IsNew}
 use Rattle.lg_io.proofs.memory.net.restart_all.Goals as goal
 
@@ -13,6 +14,7 @@ loop-door-preserved g c =
       did_nothing = subst (λ o. IfSome o (λ d. d ≡ unused_door)) (sym c.restart.ensures.door) refl;
       read_nothing = subst (λ o. IfSome o (λ calls. calls ≡ [])) (sym c.restart.ensures.calls) refl;
       met_nothing = c.restart.ensures.faults;
+      answered_nothing = ap (λ (o : Option DoorTold). option_map_or (λ told. closed_by told.last) o false) c.restart.ensures.door;
     }))
 
 pub returns-clause-unused : goal.returns-clause-unused
