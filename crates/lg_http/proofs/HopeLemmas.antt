@@ -1,10 +1,10 @@
 -- Which bytes may still become a head.
-use Rattle.std.proofs.Common.{◌≡◌, ◌⊎◌, inl, inr, ℕ, ◌<◌, ◌≤◌, Bool, true, false, not, ◌||◌, eqb, List, [], ◌∷◌, ◌++◌, length, refl, sym, ◌∙◌, ap, subst, append_assoc, append-nil, length-append, arith}
+use Rattle.std.proofs.Common.{◌≡◌, ◌⊎◌, inl, inr, ℕ, ◌+◌, ◌*◌, ◌<◌, ◌≤◌, Bool, true, false, not, ◌||◌, eqb, List, [], ◌∷◌, ◌++◌, length, refl, sym, ◌∙◌, ap, subst, append_assoc, append-nil, length-append, arith}
 use Rattle.std.specs.Prelude.{All, nat_lt}
 use Rattle.std.specs.List.{flat_map}
 use Rattle.std.proofs.lemmas.Bool.{ltb-true, ne_eqb, and_parts}
 use Rattle.std.proofs.lemmas.List.Elements.{All-head, All-tail, All-cons, All-nil, All-weaker}
-use Rattle.httparse.specs.Grammar.{is_uri_byte, IsToken, AllPass, LineEnd, lf, print_end, print_blank, Field, print_field, RequestHead, print_request, ReadsRequest, HasNoRequest, NeverHasRequest, MayBecomeRequest}
+use Rattle.httparse.specs.Grammar.{is_uri_byte, IsToken, AllPass, LineEnd, crlf, lf, print_end, print_blank, Field, print_field, IsField, RequestHead, print_request, ReadsRequest, HasNoRequest, NeverHasRequest, MayBecomeRequest}
 use Rattle.httparse.specs.Pieces.{Then, Completes, Section, RequestStart}
 use Rattle.httparse.specs.Spans.{RequestExceeds, RequestOverflows}
 use Rattle.httparse.proofs.PieceLemmas.{Blank_deterministic, Method_deterministic, Stops_token}
@@ -91,29 +91,37 @@ unfinished_hopeful bytes (inr (blank, verb, target, token, all, is)) hopeless =
 pub never_now : (bytes : List ℕ) → NeverHasRequest bytes → HasNoRequest bytes
 never_now bytes never = subst HasNoRequest (append-nil bytes) (never [])
 
--- a field has more than one byte
-fields_shorter : (fields : List Field) → length fields ≤ length (flat_map print_field fields)
-fields_shorter [] = omega arith
-fields_shorter (f ∷ fields) =
+end_some : (end : LineEnd) → 0 < length (print_end end)
+end_some crlf = omega arith
+end_some lf = omega arith
+
+-- a field has three bytes or more
+fields_shorter : (fields : List Field) → All IsField fields → 3 * length fields ≤ length (flat_map print_field fields)
+fields_shorter [] each = omega arith
+fields_shorter (f ∷ fields) each =
     omega (
       arith,
-      fields_shorter fields,
+      fields_shorter fields (All-tail IsField f fields each),
+      (All-head IsField f fields each).name.0,
+      end_some f.end,
       length-append (print_field f) (flat_map print_field fields),
       length-append (f.name ++ 58 ∷ f.raw) (print_end f.end),
       length-append f.name (58 ∷ f.raw),
     )
 
-pub fields_fit : (head : RequestHead) → length head.fields < length (print_request head)
+-- and a head has three more
+pub fields_fit : (head : RequestHead) → All IsField head.fields → 3 * length head.fields + 2 < length (print_request head)
 unfolding print_request
-fields_fit head = omega (arith, length-append {A = ℕ}, fields_shorter head.fields)
+fields_fit head each = omega (arith, length-append {A = ℕ}, fields_shorter head.fields each, end_some head.last)
 
--- as many bytes do not have more fields
-pub no_more_fields : (bytes : List ℕ) → ¬ (RequestExceeds (length bytes) bytes)
-no_more_fields bytes (front, rest, split, head, reads, more) =
+-- so few bytes do not have more fields
+pub no_more_fields : (bytes : List ℕ) → length bytes ≤ max_head → ¬ (RequestExceeds 5461 bytes)
+no_more_fields bytes short (front, rest, split, head, reads, more) =
     omega (
       arith,
+      short,
       more,
-      fields_fit head,
+      fields_fit head reads.0.fields,
       ap length split,
       length-append front rest,
       ap length (reads.1 ∙ append-nil (print_request head)),

@@ -124,7 +124,7 @@ kept_empty window (Some arrival) test (head, kept) is = (
 )
   where
     some : length window ≡ 0 → ⊥
-    some none = omega (arith, none, ap length kept.whole, fields_fit head)
+    some none = omega (arith, none, ap length kept.whole, fields_fit head kept.grammar.fields)
 
     zero_front : (m n : ℕ) → m + n ≡ 0 → m ≡ 0
     zero_front m n e = omega arith

@@ -8,7 +8,7 @@ use Rattle.httparse.proofs.GrammarLemmas.{request_unique, ReadsRequest-append}
 use Rattle.lg_http.proofs.HopeLemmas.{append_cut}
 use Rattle.lg_http.specs.Fields.{content_length}
 use Rattle.lg_http.specs.Heads.{IsAccepted}
-use Rattle.lg_http.specs.Messages.{IsOverlong, WholeMessage, message_bytes, IsMessage, BeginsWith, HasServedHead, HasHopelessFront, IsBad, IsUndecided}
+use Rattle.lg_http.specs.Messages.{IsOverlong, WholeMessage, message_bytes, IsMessage, BeginsWith, WantsMemory, HasHopelessFront, IsBad, IsUndecided}
 
 -- a served head whose body isn't whole
 abbrev IsShort : RequestHead → List ℕ → Type 0
@@ -118,8 +118,8 @@ reading_front (m ∷ ms) (n ∷ ns) r q x y v e =
     let more = reading_front ms ns r q (All-tail IsMessage m ms x) (All-tail IsMessage n ns y) v first.1 in
     (more.0, cc (first.0, more.1))
 
--- what is bad has no served head at its front
-pub bad_not_served : (rest : List ℕ) → IsBad rest → ¬ (HasServedHead rest)
+-- what is bad has no head at its front that is served
+pub bad_not_served : (rest : List ℕ) → IsBad rest → ¬ (WantsMemory rest)
 bad_not_served rest (inl (head, more, begins, refused)) (other, left, starts, accepted) =
     let same = request_unique rest head other more left begins.reads starts.reads in
     refused (subst IsAccepted (sym same.0) accepted)

@@ -4,10 +4,10 @@ use Rattle.httparse.specs.Grammar.{RequestHead, print_request}
 use Rattle.httparse.specs.Spans.{IsWithin, span_bytes}
 use Rattle.lg_http.specs.declared.heads.Head.{Head}
 use Rattle.lg_http.specs.declared.heads.Decision.{Decision}
-use Rattle.lg_http.specs.declared.heads.Decision.TheVariants.{Accept, Bad, NotYet, NoMemory}
+use Rattle.lg_http.specs.declared.heads.Decision.TheVariants.{Accept, Bad, NotYet}
 use Rattle.lg_http.specs.Fields.{content_length}
 use Rattle.lg_http.specs.Heads.{IsAccepted}
-use Rattle.lg_http.specs.Messages.{BeginsWith, HasPartOfHead, HasManyFields, IsBad}
+use Rattle.lg_http.specs.Messages.{BeginsWith, HasPartOfHead, IsBad}
 
 -- the bytes begin with a head that is served, and found has its parts
 pub record IsHeadAt (bytes : List ℕ) (found : Head) (head : RequestHead) : Type 0 where
@@ -26,4 +26,3 @@ abbrev pub Decides : List ℕ → Decision → Type 0
 Decides bytes (Accept found) = (head : RequestHead) × IsHeadAt bytes found head
 Decides bytes Bad = IsBad bytes
 Decides bytes NotYet = HasPartOfHead bytes
-Decides bytes NoMemory = HasManyFields bytes

@@ -2,7 +2,6 @@
 use Rattle.std.specs.Prelude.{◌≡◌, ℕ, ◌<◌, ◌≤◌, ◌⊎◌, List, ◌++◌, length, Some, All, IsSomeAnd}
 use Rattle.std.specs.List.{flat_map}
 use Rattle.httparse.specs.Grammar.{RequestHead, print_request, IsRequestHead, ReadsRequest, HasNoRequest}
-use Rattle.httparse.specs.Spans.{RequestExceeds}
 use Rattle.lg_http.specs.Fields.{content_length}
 use Rattle.lg_http.specs.Heads.{max_head, IsAccepted, IsHopeless}
 
@@ -27,9 +26,9 @@ pub record BeginsWith (bytes : List ℕ) (head : RequestHead) (rest : List ℕ) 
   pub reads : ReadsRequest bytes head rest
   pub short : length (print_request head) ≤ max_head
 
--- a head is at the front that is served
-abbrev pub HasServedHead : List ℕ → Type 0
-HasServedHead bytes = (head : RequestHead) × (rest : List ℕ) × BeginsWith bytes head rest × IsAccepted head
+-- a head is at the front that is served: the one place where a reader takes memory
+abbrev pub WantsMemory : List ℕ → Type 0
+WantsMemory bytes = (head : RequestHead) × (rest : List ℕ) × BeginsWith bytes head rest × IsAccepted head
 
 -- a head is at the front that is not served
 abbrev pub HasUnservedHead : List ℕ → Type 0
@@ -64,15 +63,6 @@ pub record HasPartOfHead (bytes : List ℕ) : Type 0 where
 -- Nothing, or a message that is cut short.
 abbrev pub IsUndecided : List ℕ → Type 0
 IsUndecided bytes = HasPartOfBody bytes ⊎ HasPartOfHead bytes
-
--- the lines of a front are those of a head with more than 64 fields, be it whole or not
-abbrev pub HasManyFields : List ℕ → Type 0
-HasManyFields bytes =
-    (front : List ℕ) × (rest : List ℕ) × (bytes ≡ front ++ rest) × (length front ≤ max_head) × RequestExceeds 64 front
-
--- Where a reader takes memory: for a whole head that is served, or to look at more fields than it has room for.
-abbrev pub WantsMemory : List ℕ → Type 0
-WantsMemory bytes = HasServedHead bytes ⊎ HasManyFields bytes
 
 -- The stream is these messages, one behind the other, and then the rest.
 pub record Splits (stream : List ℕ) (messages : List WholeMessage) (rest : List ℕ) : Type 0 where

@@ -2,7 +2,7 @@
 ghost use Rattle.std.specs.Prelude.{◌≡◌, ℕ, ◌≤◌, List, length, IfSome, IsSomeAnd, IsNone, IsFalse, Some};
 ghost use Rattle.http1.specs.Fields.{Header, known_fields};
 ghost use Rattle.httparse.specs.Grammar.{RequestHead, HasNoRequest, NeverHasRequest};
-ghost use Rattle.httparse.specs.Spans.{IsRequestAt, IsRequestWithin, IsRequestOf, RequestOverflows, RequestExceeds};
+ghost use Rattle.httparse.specs.Spans.{IsRequestAt, IsRequestWithin, IsRequestOf, RequestOverflows};
 ghost use Rattle.lg_http.specs.Decisions.{Decides};
 ghost use Rattle.lg_http.specs.Fields.{content_length, length_in, closes_in, is_encoded_in};
 ghost use Rattle.lg_http.specs.Heads.{max_head, IsAccepted};
@@ -12,12 +12,14 @@ use crate::target::is_in_target;
 use http1::fields::{ContentLength, KnownFields};
 use httparse::spans::{EMPTY_HEADER_SPAN, HeaderSpan, RequestSpans, Span, parse_request};
 use httparse::{Error, Status};
-use std::alloc::Global;
 
 /// How many bytes are looked at for a head.
 pub(crate) const MAX_HEAD: usize = 16_384;
 
 const MAX_FIELDS: usize = 64;
+
+/// How many fields there are at most in a head that is looked at: each takes three bytes or more.
+const MOST_FIELDS: usize = MAX_HEAD / 3;
 
 const MAX_BODY: u64 = 1_048_576;
 
@@ -39,12 +41,10 @@ pub(crate) enum Decision {
     Bad,
     /// A head may still come.
     NotYet,
-    /// There are more fields than there is room for, and no memory to look at them all.
-    NoMemory,
 }
 
 /// What the bytes at hand are, of which there are at most as many as are looked at for a head.
-pub(crate) fn decide(alloc: Global, bytes: &[u8]) -> Decision
+pub(crate) fn decide(bytes: &[u8]) -> Decision
     requires { length bytes.now ≤ max_head }
     ensures { Decides bytes.now result }
 {
@@ -52,22 +52,19 @@ pub(crate) fn decide(alloc: Global, bytes: &[u8]) -> Decision
     match parse_request(bytes, &mut fields) {
         Ok(Status::Complete(spans)) => accept(bytes, &spans, &fields),
         Ok(Status::Partial) => cut_short(bytes),
-        Err(Error::TooManyHeaders) => decide_long(alloc, bytes),
+        Err(Error::TooManyHeaders) => decide_long(bytes),
         Err(_) => broken(bytes),
     }
 }
 
-/// What bytes are whose head, once it is whole, has too many fields: the grammar alone decides when that is told.
-fn decide_long(alloc: Global, bytes: &[u8]) -> Decision
+/// What bytes are whose head, once it is whole, has too many fields: the grammar alone decides when that is told. It has
+/// room for all of them beside the window, so that a refusal never wants memory.
+fn decide_long(bytes: &[u8]) -> Decision
     requires short { length bytes.now ≤ max_head }
     requires long { RequestOverflows 64 bytes.now }
-    requires many { RequestExceeds 64 bytes.now }
     ensures { Decides bytes.now result }
 {
-    // Each field takes more than one byte, so there is room for all of them.
-    let Ok(mut fields) = vec![in alloc; EMPTY_HEADER_SPAN; bytes.len()] else {
-        return Decision::NoMemory;
-    };
+    let mut fields = [EMPTY_HEADER_SPAN; MOST_FIELDS];
     match parse_request(bytes, &mut fields) {
         Ok(Status::Complete(_)) => Decision::Bad,
         Ok(Status::Partial) => cut_short(bytes),

@@ -52,11 +52,10 @@ impl Incoming {
         ensures found { Finds self.old result self.new }
         ensures sound { IsSound self.new }
     {
-        let head = match decide(alloc, self.window.pending()) {
+        let head = match decide(self.window.pending()) {
             Decision::Accept(head) => head,
             Decision::Bad => return Some(Next::Bad(400)),
             Decision::NotYet => return None,
-            Decision::NoMemory => return Some(Next::NoMemory),
         };
         let Ok(arriving) = Arriving::begin(alloc, self.window.pending(), &head) else {
             return Some(Next::NoMemory);

@@ -1,5 +1,5 @@
 ghost use Rattle.std.specs.Prelude.{◌≡◌, ◌⊎◌, ℕ, List, ◌++◌};
-ghost use Rattle.lg_http.specs.Messages.{WholeMessage, Splits, HasServedHead, IsBad, IsUndecided};
+ghost use Rattle.lg_http.specs.Messages.{WholeMessage, Splits, WantsMemory, IsBad, IsUndecided};
 
 /// A stream is read in one way only: the messages and the rest behind them are determined by its bytes.
 pub fn one_reading()
@@ -14,9 +14,9 @@ pub fn never_both()
     ensures { (rest : List ℕ) → IsBad rest → ¬ IsUndecided rest }
 {}
 
-/// Where what stands at the front is bad no head is served: memory for one isn't wanted there.
-pub fn bad_is_not_served()
-    ensures { (rest : List ℕ) → IsBad rest → ¬ HasServedHead rest }
+/// Where what stands at the front is bad no memory is wanted: that it is bad can always be told.
+pub fn bad_wants_no_memory()
+    ensures { (rest : List ℕ) → IsBad rest → ¬ WantsMemory rest }
 {}
 
 /// What is bad stays bad, whatever bytes follow.

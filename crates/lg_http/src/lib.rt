@@ -12,7 +12,7 @@ mod response;
 mod target;
 mod window;
 
-pub use laws::{bad_is_not_served, bad_stays, first_messages, never_both, one_reading};
+pub use laws::{bad_stays, bad_wants_no_memory, first_messages, never_both, one_reading};
 pub use message::{Message, Next};
 pub use reader::Reader;
 pub use reader_end::ReaderEnd;

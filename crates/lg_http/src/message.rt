@@ -34,7 +34,7 @@ pub enum Next {
     Quiet,
     /// A read failed.
     Failed,
-    /// There is no memory for the message whose head is whole, or to look at a head of more than 64 fields.
+    /// There is no memory for the message whose head is whole.
     NoMemory,
 }
 

@@ -41,8 +41,8 @@ impl Reader {
     }
 
     /// The next message, once it is whole. Nothing is read where the bytes at hand decide. After any answer but `Message`
-    /// and `Quiet` the same answer comes again, and nothing is read. `NoMemory` is answered only where the front is a whole
-    /// head that is served, or has more than 64 fields; no byte is lost at it.
+    /// and `Quiet` the same answer comes again, and nothing is read. `NoMemory` is answered only where a whole head is at
+    /// the front that is served; no byte is lost at it.
     pub fn next<R: Source>(&mut self, alloc: Global, source: &mut R) -> Next
         ensures reads { self.old.over ≡ None → (got : List ℕ) × Hears (R.received source.old) result got (R.received source.new)
             × Reads (self.old.left ++ got) result self.new.left }

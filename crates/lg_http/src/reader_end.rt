@@ -14,7 +14,7 @@ pub enum ReaderEnd {
     Torn,
     /// A read failed.
     Failed,
-    /// There is no memory for the message whose head is whole, or to look at a head of more than 64 fields.
+    /// There is no memory for the message whose head is whole.
     NoMemory,
 }
 

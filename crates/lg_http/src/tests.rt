@@ -91,9 +91,13 @@ struct Counted<S> {
 impl<S: Source> Source for Counted<S> {
     ghost received = { λ c. S.received c.source };
 
+    ghost is_over = { λ c. S.is_over c.source };
+
     ghost faults = { λ c. S.faults c.source };
 
     ghost rest = { λ c. S.rest c.source };
+
+    ghost tells_its_end = { λ c. S.tells_its_end c.source };
 
     fn read(&mut self, buf: &mut [u8]) -> ReadStep {
         self.reads = self.reads.saturating_add(1);

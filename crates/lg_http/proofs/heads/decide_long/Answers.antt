@@ -1,5 +1,4 @@
-use Rattle.std.proofs.Common.{◌≡◌, inl, ℕ, length, Err, ap, subst, ◌∙◌}
-use Rattle.httparse.specs.Spans.{RequestExceeds}
+use Rattle.std.proofs.Common.{inl, Err, ap}
 use Rattle.lg_http.proofs.HopeLemmas.{unfinished_hopeful, no_more_fields, long_refused}
 use Rattle.lg_http.proofs.heads.decide_long.Goals as goal
 
@@ -14,6 +13,4 @@ cut_short-requires-clause-hopeful c =
 
 pub broken-requires-clause-never : goal.broken-requires-clause-never
 broken-requires-clause-never c =
-    let room : length c.deref_mut.result.now ≡ length c.args.bytes.now = c.deref_mut.ensures.len ∙ c.in-Ok.ensures.len in
-    c.in-Err.ensures.invalid (λ many. no_more_fields c.args.bytes.now
-    (subst (λ (n : ℕ). RequestExceeds n c.args.bytes.now) room (c.in-Err.ensures.too_many (ap Err many))))
+    c.in-Err.ensures.invalid (λ many. no_more_fields c.args.bytes.now c.requires.short (c.in-Err.ensures.too_many (ap Err many)))
