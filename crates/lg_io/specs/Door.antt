@@ -1,5 +1,5 @@
 -- What a door did. This project's own.
-use Rattle.std.specs.Prelude.{◌≡◌, ℕ, ◌+◌, ◌<◌, Bool, true, false, List, [], ◌∷◌, ◌++◌, length, Option, Some, None, option_map, option_and_then, IfSome}
+use Rattle.std.specs.Prelude.{◌≡◌, ℕ, ◌+◌, ◌<◌, ◌≤◌, Bool, true, false, List, [], ◌∷◌, ◌++◌, length, Option, Some, None, option_map, option_and_then, IfSome}
 use Rattle.lg_io.specs.declared.door.Accept.{Accept}
 use Rattle.lg_io.specs.declared.door.Accept.TheVariants.{Conn, Quiet, Closed, Failed, NoMemory}
 use Rattle.lg_io.specs.Link.{LinkTold, fresh_link, EndedLink, ended_link}
@@ -73,6 +73,10 @@ pub record IsFresh (door : Option DoorTold) (link : LinkTold) : Type 0 where
   pub read_all : link.read_faults ≡ 0
   pub wrote_all : link.write_faults ≡ 0
   pub told : IfSome door (λ d. link ≡ fresh_link)
+
+-- each link that was handed out was handed back, where the door tells them
+abbrev pub HasNoLinkOut : Option DoorTold → Type 0
+HasNoLinkOut door = IfSome door (λ d. d.handed ≤ length d.ended)
 
 -- fewer links were handed back than handed out, where the door tells them
 abbrev pub HasLinkOut : Option DoorTold → Type 0

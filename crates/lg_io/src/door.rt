@@ -1,7 +1,7 @@
 ghost use Rattle.std.specs.Prelude.{◌≡◌, ℕ, ◌≤◌, Bool, ◌||◌, true, false, Option, Some, length, option_map, IfSome, IsTrue};
 ghost use Rattle.lg_io.specs.declared.door.Accept.TheVariants.{Closed, Failed};
 ghost use Rattle.lg_io.specs.Cause.{HasCause};
-ghost use Rattle.lg_io.specs.Door.{DoorTold, closed, accept_kind, is_closing, accepted, told_done, IfConn, IsFresh, HasLinkOut};
+ghost use Rattle.lg_io.specs.Door.{DoorTold, closed, accept_kind, is_closing, accepted, told_done, IfConn, IsFresh, HasLinkOut, HasNoLinkOut};
 ghost use Rattle.lg_io.specs.Rest.{of_door};
 
 use crate::{Clock, Link};
@@ -37,8 +37,9 @@ pub trait Door: Clock + Send {
     /// How many of its calls of `accept` met a fault.
     ghost faults: { Self → ℕ };
 
-    /// The next link, if one came.
+    /// The next link, if one came. Those that were handed out before have been handed back.
     fn accept(&mut self, alloc: Global) -> Accept<Self::Conn>
+        requires { HasNoLinkOut (door self.old) }
         ensures told { door self.new ≡ option_map (accepted (accept_kind result)) (door self.old) }
         ensures fresh { IfConn result (λ link. IsFresh (door self.old) (record {
           received = Self.Conn.received link;

@@ -17,12 +17,12 @@ some_link zero journal begun over =
 some_link (suc n) journal begun over = omega arith
 
 -- the lane ended as its journal is over
-pub ends_over : (base : State) (journal : List Entry) (lane connections : ℕ) (first now : Option DoorTold) (before calls : Option (List ClockCall)) (end : LifeEnd)
+pub ends_over : (base : State) (journal : List Entry) (lane connections : ℕ) (first now : Option DoorTold) (before calls : Option (List ClockCall)) (m n : ℕ) (end : LifeEnd)
     → SoFar base journal lane connections first now before calls → (connections ≡ 0 → journal ≡ []) → is_over journal ≡ true
     → ((told : DoorTold) → told.last ≡ Some conn → HasLast end told)
-    → HasLane base lane end journal (record { door = first; calls = before }) (record { door = now; calls = calls })
-ends_over base journal lane connections None now before calls end so_far begun over last = so_far
-ends_over base journal lane connections (Some old) now before calls end so_far begun over last = record {
+    → HasLane base lane end journal (record { door = first; faults = m; calls = before }) (record { door = now; faults = n; calls = calls })
+ends_over base journal lane connections None now before calls m n end so_far begun over last = so_far
+ends_over base journal lane connections (Some old) now before calls m n end so_far begun over last = record {
   new = so_far.0;
   tells = so_far.1;
   sessions = so_far.2.sessions;
@@ -31,13 +31,13 @@ ends_over base journal lane connections (Some old) now before calls end so_far b
 }
 
 -- the lane ended as its door handed out no link
-pub ends_by_door : (base : State) (journal : List Entry) (lane connections : ℕ) (first door now : Option DoorTold) (before calls after : Option (List ClockCall)) (end : LifeEnd) (kind : AcceptKind)
+pub ends_by_door : (base : State) (journal : List Entry) (lane connections : ℕ) (first door now : Option DoorTold) (before calls after : Option (List ClockCall)) (m n : ℕ) (end : LifeEnd) (kind : AcceptKind)
     → SoFar base journal lane connections first door before calls → handed_by kind ≡ 0
     → now ≡ option_map (accepted kind) door → after ≡ calls
     → ((told : DoorTold) → HasLast end (accepted kind told))
-    → HasLane base lane end journal (record { door = first; calls = before }) (record { door = now; calls = after })
-ends_by_door base journal lane connections None door now before calls after end kind so_far none now_is after_is last = rw (now_is, so_far) refl
-ends_by_door base journal lane connections (Some old) door now before calls after end kind so_far none now_is after_is last =
+    → HasLane base lane end journal (record { door = first; faults = m; calls = before }) (record { door = now; faults = n; calls = after })
+ends_by_door base journal lane connections None door now before calls after m n end kind so_far none now_is after_is last = rw (now_is, so_far) refl
+ends_by_door base journal lane connections (Some old) door now before calls after m n end kind so_far none now_is after_is last =
     let told = so_far.0 in
     let lane' = so_far.2.as_lane in
     record {

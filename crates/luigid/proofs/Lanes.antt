@@ -1,12 +1,12 @@
 -- The connections of a lane so far, and one more.
 use Rattle.std.proofs.Common.{◌≡◌, ℕ, ◌+◌, ◌<◌, true, false, List, [], ◌∷◌, ◌++◌, map, length, refl, sym, ◌∙◌, ap, subst, arith, eq-eqb, All, Option, Some, None, option_map, length-append, append_assoc}
 use Rattle.std.proofs.lemmas.Grind.{flat_map-append}
-use Rattle.std.proofs.lemmas.List.{append-nil, map-append}
+use Rattle.std.proofs.lemmas.List.{append-nil, length-map, map-append}
 use Rattle.std.proofs.lemmas.List.Elements.{All-head, All-tail}
 use Rattle.std.specs.List.{flat_map}
 use Rattle.std.specs.Prelude.{◌==◌, MatchOption}
 use Rattle.lg_io.specs.Clock.{ClockCall, reading}
-use Rattle.lg_io.specs.Door.{conn, accepted, DoorTold, told_done, done_with, IsFresh}
+use Rattle.lg_io.specs.Door.{conn, accepted, DoorTold, told_done, done_with, IsFresh, HasNoLinkOut}
 use Rattle.lg_io.specs.Link.{LinkTold, fresh_link}
 use Rattle.lg_io.specs.Tells.{TellsOn}
 use Rattle.lg_io.proofs.CallerLemmas.{TellsOn-nothing, TellsOn-append}
@@ -138,3 +138,13 @@ so_far_more base journal new lane connections (Some old) door between behind bef
       rw (behind_is, between_is, so_far.1, s.link_is) refl,
       rw ended_is (one_more base journal new lane connections old told before calls after link so_far.2 still alone goes s),
     )
+
+-- each link of a door that tells was handed back so far
+pub none_out : (base : State) (journal : List Entry) (lane connections : ℕ) (first now : Option DoorTold) (before calls : Option (List ClockCall))
+    → SoFar base journal lane connections first now before calls → HasNoLinkOut first → HasNoLinkOut now
+none_out base journal lane connections None now before calls so_far none = rw so_far tt
+none_out base journal lane connections (Some old) now before calls so_far none =
+    let lane' = so_far.2.as_lane in
+    let ended : length so_far.0.ended ≡ length old.ended + length so_far.2.sessions =
+        ap length lane'.links ∙ length-append old.ended _ ∙ ap (λ n. length old.ended + n) (length-map (λ (s : Session). s.link) so_far.2.sessions) in
+    rw so_far.1 (omega (arith, ended, lane'.all_back, none))

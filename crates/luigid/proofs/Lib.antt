@@ -8,6 +8,7 @@ pub mod Lives
 pub mod Handlings
 pub mod Hearings
 pub mod Servings
+pub mod Faults
 pub mod Responses
 pub mod Sessions
 pub mod Transcripts

@@ -1,8 +1,9 @@
 -- What a run of the daemon comes to, from its parts.
 use Rattle.std.proofs.Common.{◌≡◌, ◌≢◌, ℕ, ◌<◌, ◌≤◌, List, [], ◌∷◌, map, length, get_or, refl, sym, ◌∙◌, subst, arith, All, Option, Some, None, IfSome, option_map, inr}
 use Rattle.std.proofs.Math.ListN.{set}
+use Rattle.lg_io.specs.Cause.{HasCause}
 use Rattle.lg_io.specs.Clock.{ClockCall}
-use Rattle.lg_io.specs.Door.{DoorTold, unused_door}
+use Rattle.lg_io.specs.Door.{DoorTold, unused_door, HasNoLinkOut}
 use Rattle.lg_io.specs.DoorSeen.{DoorSeen}
 use Rattle.lg_io.specs.Net.{BindCall}
 use Rattle.lg_io.specs.Tells.{TellsOn}
@@ -61,12 +62,12 @@ run_served words before after door life exit line told never_falls no_fault one_
 }
 
 -- what an untouched door told, if its lane goes on telling
-lane_of_unused : (base : State) (journal : List Entry) (end : LifeEnd) (first now : Option DoorTold) (before calls : Option (List ClockCall))
+lane_of_unused : (base : State) (journal : List Entry) (end : LifeEnd) (first now : Option DoorTold) (before calls : Option (List ClockCall)) (m n : ℕ)
     → IfSome first (λ told. told ≡ unused_door) → IfSome before (λ c. c ≡ [])
-    → HasLane base 0 end journal (record { door = first; calls = before }) (record { door = now; calls = calls })
-    → HasLane base 0 end journal (unused (record { door = now; calls = calls })) (record { door = now; calls = calls })
-lane_of_unused base journal end None now before calls was none lane = rw lane refl
-lane_of_unused base journal end (Some old) now before calls was none lane =
+    → HasLane base 0 end journal (record { door = first; faults = m; calls = before }) (record { door = now; faults = n; calls = calls })
+    → HasLane base 0 end journal (unused (record { door = now; faults = n; calls = calls })) (record { door = now; faults = n; calls = calls })
+lane_of_unused base journal end None now before calls m n was none lane = rw lane refl
+lane_of_unused base journal end (Some old) now before calls m n was none lane =
     let told : now ≡ Some lane.new = lane.tells in
     let since : IsLane base journal 0 unused_door lane.new before calls lane.sessions =
     subst (λ d. IsLane base journal 0 d lane.new before calls lane.sessions) was lane.is_lane in
@@ -93,12 +94,18 @@ lane_of_unused base journal end (Some old) now before calls was none lane =
 pub served_life : (base : State) (journal handed : List Entry) (end : LifeEnd) (began door : DoorSeen) (before during after : Option (List LifeTold))
     → base ≡ empty_state → handed ≡ journal
     → TellsOn before during (record { base = base; end = None } ∷ []) → EndsLife handed end during after
-    → EndsBy end journal → NoneBehindEnd handed → All (λ (e : Entry). e.pass ≡ 0) journal → IsUntouched began → HasLane base 0 end journal began door
+    → EndsBy end journal → HasCause began.faults door.faults (end ≡ Doors) → NoneBehindEnd handed → All (λ (e : Entry). e.pass ≡ 0) journal → IsUntouched began → HasLane base 0 end journal began door
     → IsServedLife before after door (record { journal = handed; end = end })
-served_life base journal handed end began door before during after base_is handed_is begun ended ends none_behind alone untouched lane = record {
+served_life base journal handed end began door before during after base_is handed_is begun ended ends failed none_behind alone untouched lane = record {
   audited = subst (λ state. TellsOn before after (record { base = state; end = Some (handed, end) } ∷ [])) base_is (told_whole base handed end before during after begun ended);
   ends = rw handed_is ends;
+  door_failed = rw untouched.unfailed at failed.rises;
   none_behind = none_behind;
   no_other = rw handed_is alone;
-  lane = rw (← base_is, handed_is) (lane_of_unused base journal end began.door door.door began.calls door.calls untouched.unused untouched.uncalled lane);
+  lane = rw (← base_is, handed_is) (lane_of_unused base journal end began.door door.door began.calls door.calls began.faults door.faults untouched.unused untouched.uncalled lane);
 }
+
+-- an untouched door has no link out
+pub untouched_all_back : (door : Option DoorTold) → IfSome door (λ told. told ≡ unused_door) → HasNoLinkOut door
+untouched_all_back None unused = tt
+untouched_all_back (Some told) unused = rw unused (omega arith)

@@ -103,7 +103,7 @@ ends_unheard base lane connection journal calls link fresh =
     let none : link_faults link ≡ 0 = rw fresh refl in
     serves base lane connection journal journal [] [] [] calls calls nothing_received link without_memory (heard_nothing base lane connection journal calls)
     (rw fresh refl) (rw fresh refl) refl
-    (All-nil GoesOn, inr (record { nothing_handled = refl; nothing_received = refl }), all_written [] nothing_received (link_faults link) none)
+    (All-nil GoesOn, inr (record { nothing_handled = refl; nothing_received = refl; never_quiet = refl }), all_written [] nothing_received (link_faults link) none)
 
 -- the connection ended where no message stood
 pub ends_bad : {T E : Type 0} (base : State) (lane connection : ℕ) (old new : List Entry) (count : ℕ) (left got : List ℕ) (before now : Option (List ClockCall)) (link heard link' : LinkTold) (answer : Next) (status : ℕ) (result : Result T E)

@@ -21,11 +21,13 @@ use Rattle.luigid.specs.declared.state.State.{State}
 -- nobody called the door or its clock
 pub record IsUntouched (seen : DoorSeen) : Type 0 where
   pub unused : IfSome seen.door (λ told. told ≡ unused_door)
+  pub unfailed : seen.faults ≡ 0
   pub uncalled : IfSome seen.calls (λ calls. calls ≡ [])
 
 -- what a door and its clock told when the door was bound, if they tell
 abbrev pub unused : DoorSeen → DoorSeen
-unused seen = record { door = option_map (λ _. unused_door) seen.door; calls = option_map (λ _. []) seen.calls }
+unused seen =
+    record { door = option_map (λ _. unused_door) seen.door; faults = 0; calls = option_map (λ _. []) seen.calls }
 
 -- what the outside tells: the calls of `bind` and how many of them failed, the doors that were bound, and the lives
 pub record Outside : Type 0 where
@@ -85,12 +87,13 @@ pub record ServedLife : Type 0 where
   pub journal : List Entry
   pub end : LifeEnd
 
--- A life was served over one door: the audit is told of it, with the empty state as its base; it ended for a cause, and
--- nothing was entered behind it; the door's one lane entered its calls, and there are no others; and its connections are
--- served as they are to be.
+-- A life was served over one door: the audit is told of it, with the empty state as its base; it ended for a cause, by its
+-- door exactly where the door failed, and nothing was entered behind it; the door's one lane entered its calls, and there
+-- are no others; and its connections are served as they are to be.
 pub record IsServedLife (before after : Option (List LifeTold)) (door : DoorSeen) (life : ServedLife) : Type 0 where
   pub audited : TellsOn before after (record { base = empty_state; end = Some (life.journal, life.end) } ∷ [])
   pub ends : EndsBy life.end life.journal
+  pub door_failed : (life.end ≡ Doors) ↔ (0 < door.faults)
   pub none_behind : NoneBehindEnd life.journal
   pub no_other : All (λ e. e.pass ≡ 0) life.journal
   pub lane : HasLane empty_state 0 life.end life.journal (unused door) door

@@ -155,6 +155,7 @@ pub record IsCutShort (responses : List (List ℕ)) (link : EndedLink) : Type 0 
 pub record IsUnheard (session : Session) : Type 0 where
   pub nothing_handled : session.handled ≡ []
   pub nothing_received : session.link.received ≡ []
+  pub never_quiet : session.link.quiets ≡ 0
 
 -- The cause of each end. Behind a last response nothing is answered; where the connection ended before one, every
 -- message that was whole is answered, but where a reader wanted memory for the next.

@@ -56,7 +56,7 @@ pub fn luigid<R: Wait, N: Net, F: Files, G: Numbers, U: Audit, O: Sink, S: Sink>
         record {
           binds = N.binds net.new;
           bind_faults = N.faults net.new;
-          doors = map (λ d. record { door = N.Door.door d; calls = N.Door.calls d }) doors.new.items;
+          doors = map (λ d. record { door = N.Door.door d; faults = N.Door.faults d; calls = N.Door.calls d }) doors.new.items;
           lives = U.lives audit.new;
         }
         exit }
@@ -89,7 +89,7 @@ fn run<R: Wait, N: Net, U: Audit>(
         record {
           binds = N.binds net.new;
           bind_faults = N.faults net.new;
-          doors = map (λ d. record { door = N.Door.door d; calls = N.Door.calls d }) doors.new.items;
+          doors = map (λ d. record { door = N.Door.door d; faults = N.Door.faults d; calls = N.Door.calls d }) doors.new.items;
           lives = U.lives audit.new;
         }
         result }
@@ -125,7 +125,7 @@ fn serve<R: Wait, N: Net, U: Audit>(
         record {
           binds = N.binds net.new;
           bind_faults = N.faults net.new;
-          doors = map (λ d. record { door = N.Door.door d; calls = N.Door.calls d }) doors.new.items;
+          doors = map (λ d. record { door = N.Door.door d; faults = N.Door.faults d; calls = N.Door.calls d }) doors.new.items;
           lives = U.lives audit.new;
         }
         result }
@@ -156,7 +156,7 @@ fn listen<N: Net>(alloc: Global, net: &mut N, doors: &mut Vec<N::Door>) -> Resul
     ensures told { ((result ≡ Err BindFault.NoMemory) × (N.binds net.new ≡ N.binds net.old)) ⊎ TellsOn (N.binds net.old) (N.binds net.new) (the_bind ∷ []) }
     ensures cause { HasCause (N.faults net.old) (N.faults net.new) (IsErrOf result BindFault.Failed) }
     ensures one { OnOk result (length doors.new.items ≡ 1) }
-    ensures untouched { OnOk result (All (λ d. IsUntouched record { door = N.Door.door d; calls = N.Door.calls d }) doors.new.items) }
+    ensures untouched { OnOk result (All (λ d. IsUntouched record { door = N.Door.door d; faults = N.Door.faults d; calls = N.Door.calls d }) doors.new.items) }
     ensures none { OnErr result (doors.new.items ≡ []) }
 {
     let Ok(address) = Text::copied(alloc, ADDRESS) else {
@@ -176,9 +176,9 @@ fn serve_life<R: Wait, D: Door, U: Audit>(
     audit: &mut U,
 ) -> Result<LifeEnd, NoMemory>
     requires texts { AreTexts texts.now }
-    requires untouched { IsUntouched record { door = D.door door.old; calls = D.calls door.old } }
+    requires untouched { IsUntouched record { door = D.door door.old; faults = D.faults door.old; calls = D.calls door.old } }
     ensures ok { IfOk result (λ end. (journal : List Entry) × IsServedLife (U.lives audit.old) (U.lives audit.new)
-        record { door = D.door door.new; calls = D.calls door.new } record { journal = journal; end = end }) }
+        record { door = D.door door.new; faults = D.faults door.new; calls = D.calls door.new } record { journal = journal; end = end }) }
     ensures err { OnErr result ((U.lives audit.new ≡ U.lives audit.old) × (door.new ≡ door.old)) }
     ensures rest { U.rest audit.new ≡ U.rest audit.old }
 {

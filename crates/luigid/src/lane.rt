@@ -1,9 +1,11 @@
 //! One lane: the links of a door, served one after another.
 ghost use Rattle.std.specs.Prelude.{◌≡◌, ◌≢◌, [], All, option_map};
-ghost use Rattle.lg_io.specs.declared.door.Accept.TheVariants.{Quiet};
-ghost use Rattle.lg_io.specs.Door.{accept_kind, accepted, IfConn, IsFresh};
+ghost use Rattle.lg_io.specs.declared.door.Accept.TheVariants.{Quiet, Failed};
+ghost use Rattle.lg_io.specs.Cause.{HasCause};
+ghost use Rattle.lg_io.specs.Door.{accept_kind, accepted, IfConn, IsFresh, HasNoLinkOut};
 ghost use Rattle.lg_io.specs.DoorSeen.{DoorSeen};
 ghost use Rattle.lg_io.specs.Link.{LinkTold};
+ghost use Rattle.luigid.specs.declared.audit.LifeEnd.TheVariants.{Doors};
 ghost use Rattle.luigid.specs.Headline.{EndsBy, HasLane};
 ghost use Rattle.luigid.specs.Said.{AreTexts};
 
@@ -26,10 +28,13 @@ pub fn serve_lane<R: Wait, D: Door>(
     door: &mut D,
 ) -> LifeEnd
     requires begun { life.old.journal ≡ [] }
+    requires all_back { HasNoLinkOut (D.door door.old) }
     requires texts { AreTexts texts.now }
     ensures served { HasLane life.old.state lane result life.new.journal
-        record { door = D.door door.old; calls = D.calls door.old } record { door = D.door door.new; calls = D.calls door.new } }
+        record { door = D.door door.old; faults = D.faults door.old; calls = D.calls door.old }
+        record { door = D.door door.new; faults = D.faults door.new; calls = D.calls door.new } }
     ensures ends { EndsBy result life.new.journal }
+    ensures failed { HasCause (D.faults door.old) (D.faults door.new) (result ≡ Doors) }
     ensures no_other { All (λ e. e.pass ≡ lane) life.new.journal }
 {
     for connection in 0..u64::MAX {
@@ -57,6 +62,7 @@ pub fn serve_lane<R: Wait, D: Door>(
 
 /// The next answer of a door that isn't quiet. It may wait for it forever.
 fn next_link<R: Wait, D: Door>(rt: &R, alloc: Global, door: &mut D) -> Accept<D::Conn>
+    requires { HasNoLinkOut (D.door door.old) }
     ensures loud { result ≢ Quiet }
     ensures told { D.door door.new ≡ option_map (accepted (accept_kind result)) (D.door door.old) }
     ensures fresh { IfConn result (λ link. IsFresh (D.door door.old) record {
@@ -65,6 +71,7 @@ fn next_link<R: Wait, D: Door>(rt: &R, alloc: Global, door: &mut D) -> Accept<D:
       read_faults = D.Conn.Source.faults link;
       write_faults = D.Conn.Sink.faults link;
     }) }
+    ensures cause { HasCause (D.faults door.old) (D.faults door.new) (result ≡ Failed) }
     ensures calls { D.calls door.new ≡ D.calls door.old }
 {
     for _ in rt.forever() {
