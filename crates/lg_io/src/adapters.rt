@@ -1,5 +1,6 @@
-//! The outside over real things, a few lines each. They tell nothing of what they hold, and they are trusted to do
-//! what their names say; their answers and faults are proved as for any other object.
+//! The outside over real things, a few lines each. They carry over what their reader or writer tells, and tell nothing
+//! else of what they hold. A fault is counted just where a call answers that it failed; that they do what their names say is
+//! trusted.
 mod clock;
 mod files;
 mod numbers;

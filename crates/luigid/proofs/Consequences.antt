@@ -73,9 +73,9 @@ pub unknown_method_path : (path name : List ℕ) → path ≡ codes "/api/" ++ n
 unknown_method_path path name is none = rw is (unknown_method name none)
 
 -- the first argument is at fault
-pub no_resource : (members : Members) (refusal : Refusal) → resource_in members ≡ Err refusal → update_of members ≡ Err refusal
-no_resource members refusal is = rw is refl
+pub no_resource : (object : Members) (refusal : Refusal) → resource_in object ≡ Err refusal → update_of object ≡ Err refusal
+no_resource object refusal is = rw is refl
 
 -- the second is
-pub no_amount : (members : Members) (resource : List ℕ) (refusal : Refusal) → resource_in members ≡ Ok resource → amount_in members ≡ Err refusal → update_of members ≡ Err refusal
-no_amount members resource refusal first second = rw (first, second) refl
+pub no_amount : (object : Members) (resource : List ℕ) (refusal : Refusal) → resource_in object ≡ Ok resource → amount_in object ≡ Err refusal → update_of object ≡ Err refusal
+no_amount object resource refusal first second = rw (first, second) refl

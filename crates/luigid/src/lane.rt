@@ -62,7 +62,7 @@ pub fn serve_lane<R: Wait, D: Door>(
 
 /// The next answer of a door that isn't quiet. It may wait for it forever.
 fn next_link<R: Wait, D: Door>(rt: &R, alloc: Global, door: &mut D) -> Accept<D::Conn>
-    requires { HasNoLinkOut (D.door door.old) }
+    requires all_back { HasNoLinkOut (D.door door.old) }
     ensures loud { result ≢ Quiet }
     ensures told { D.door door.new ≡ option_map (accepted (accept_kind result)) (D.door door.old) }
     ensures fresh { IfConn result (λ link. IsFresh (D.door door.old) record {

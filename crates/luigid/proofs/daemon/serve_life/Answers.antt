@@ -13,6 +13,3 @@ returns-clause-ok g c =
       served_life c.begin-life.result.state _ _ _ _ _ _ _ _ (c.begin-life.ensures.state ∙ c.empty-base.ensures.empty) c.into_journal.ensures.same
           (rw c.begin-life.ensures.state c.in_ok-begins.ensures.ok) c.ends.ensures.told lane.ends lane.failed c.into_journal.ensures.none_behind lane.no_other c.requires.untouched lane.served,
     )
-
-pub serve_lane-requires-clause-all_back : goal.serve_lane-requires-clause-all_back
-serve_lane-requires-clause-all_back g c = untouched_all_back _ c.requires.untouched.unused

@@ -64,8 +64,8 @@ pub returns-in-NoMemory-clause-served : goal.returns-in-NoMemory-clause-served
 returns-in-NoMemory-clause-served g c =
     ends_by_door _ _ _ _ _ _ _ _ _ _ _ _ Memory no_memory c.loop-connection.invariant.so_far refl c.in-NoMemory.ensures.told c.in-NoMemory.ensures.calls (λ told. refl)
 
-pub next_link-requires : goal.next_link-requires
-next_link-requires g c = none_out _ _ _ _ _ _ _ _ c.loop-connection.invariant.so_far c.requires.all_back
+pub next_link-requires-clause-all_back : goal.next_link-requires-clause-all_back
+next_link-requires-clause-all_back g c = λ κs outlives. none_out _ _ _ _ _ _ _ _ c.loop-connection.invariant.so_far c.requires.all_back
 
 pub returns-then-is_stopped-clause-failed : goal.returns-then-is_stopped-clause-failed
 returns-then-is_stopped-clause-failed g c = nothing_failed _ _ _ c.loop-connection.invariant.faults (λ it. cc)
