@@ -89,6 +89,10 @@ module _ {V I B : Type 0} where
   abbrev pub callers_of : Turn V I B → ℕ
   callers_of turn = turn.table.shared.key.callers
 
+  -- how many passes the turn began with
+  abbrev pub passes_at_start : Turn V I B → ℕ
+  passes_at_start turn = turn.table.shared.key.passes
+
   -- the base that the value had at the start
   abbrev pub origin_of : (V → B) → Turn V I B → B
   origin_of base turn = base turn.table.shared.key.first.value

@@ -4,7 +4,7 @@ ghost use Rattle.std.specs.List.{range_with_len};
 ghost use Rattle.lg_turn.specs.declared.view.Stage.TheVariants.{Idle};
 ghost use Rattle.lg_turn.specs.Views.{blank, view_of};
 ghost use Rattle.lg_turn.specs.Steps.{beginning};
-ghost use Rattle.lg_turn.specs.Passes.{number_of, IsNew, IsPassOf, callers_of, origin_of};
+ghost use Rattle.lg_turn.specs.Passes.{number_of, IsNew, IsPassOf, callers_of, passes_at_start, origin_of};
 
 use super::{ONE_MORE, SeatOf, SharedOf, TableOf, Turn};
 use crate::keeps::Keeps;
@@ -94,6 +94,7 @@ impl<V: Keeps> Turn<V> {
         requires callers { (1 ≤ callers) × (callers ≤ 65) }
         requires empty { V.items value ≡ [] }
         ensures callers { IfOk result (λ made. callers_of made.0 ≡ callers) }
+        ensures one { IfOk result (λ made. passes_at_start made.0 ≡ 1) }
         ensures base { IfOk result (λ made. origin_of V.base made.0 ≡ V.base value) }
         ensures pass { IfOk result (λ made. IsPassOf made.0 made.1 × (number_of made.1 ≡ 0)) }
         ensures new { IfOk result (λ made. IsNew (V.base value) made.1) }
@@ -124,6 +125,7 @@ impl<V: Keeps> Turn<V> {
         requires callers { (1 ≤ callers) × (callers ≤ 65) }
         requires empty { V.items value ≡ [] }
         ensures callers { IfOk result (λ made. callers_of made.0 ≡ callers) }
+        ensures all { IfOk result (λ made. passes_at_start made.0 ≡ callers) }
         ensures base { IfOk result (λ made. origin_of V.base made.0 ≡ V.base value) }
         ensures numbers { IfOk result (λ made. map number_of made.1.items ≡ range_with_len 0 callers) }
         ensures passes { IfOk result (λ made. All (IsPassOf made.0) made.1.items) }
