@@ -83,7 +83,7 @@ abbrev pub Does : FileCall → FileAnswer → FileMap → FileMap → Type 0
 Does (read path) (found bytes) before after = (get before path ≡ Some bytes) × (after ≡ before)
 Does (read path) absent before after = (get before path ≡ None) × (after ≡ before)
 Does (read path) failed before after = after ≡ before
-Does (read path) no_memory before after = after ≡ before
+Does (read path) no_memory before after = (bytes : List ℕ) × (get before path ≡ Some bytes) × (after ≡ before)
 Does (create path) done before after = after ≡ insert before path []
 Does (create path) failed before after = SameBut path before after
 Does (append path piece) done before after =

@@ -93,7 +93,8 @@ pub record IsBegunAnew {P : Type 0} (due script : P → ℕ → Bool)
   pub input : source_script script new.source ≡ source_script script old.source
   pub output : sink_script script new.sink ≡ sink_script script old.sink
 
--- what an answer takes of the visits: the next link, begun anew, or a visit without one; or none is left
+-- what an answer takes of the visits: the next link, begun anew, or a visit without one; or none is left. Only a link
+-- wants memory, and it stays the next where there is none.
 abbrev pub TakesVisit : {P : Type 0} → (P → ℕ → Bool) → (P → ℕ → Bool) → List (Visit P) → List (Visit P)
     → Accept (PairLink (MemorySource P) (MemorySink P)) → Type 0
 TakesVisit due script old new (accept.Conn link) =
@@ -101,7 +102,8 @@ TakesVisit due script old new (accept.Conn link) =
 TakesVisit due script old new accept.Quiet = old ≡ visit.Quiet ∷ new
 TakesVisit due script old new accept.Closed = (old ≡ []) × (new ≡ [])
 TakesVisit due script old new accept.Failed = new ≡ old
-TakesVisit due script old new accept.NoMemory = new ≡ old
+TakesVisit due script old new accept.NoMemory =
+    (next : _) × (rest : _) × (old ≡ visit.Conn next ∷ rest) × (new ≡ old)
 
 -- one `accept` of a door that isn't closed: it fails exactly where it is to, and else takes the next visit
 pub record AcceptsByScript {P : Type 0} (due script : P → ℕ → Bool) (old new : DoorScript P)

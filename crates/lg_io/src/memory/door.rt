@@ -30,7 +30,8 @@ pub enum Answer {
     NoMemory,
 }
 
-/// A door that hands out the links of its visits, and is closed behind the last. It keeps the links that came back.
+/// A door that hands out the links of its visits, and is closed behind the last. It keeps the links that came back; a
+/// link for whose return it finds no memory stays its next visit.
 #[derive(Drop)]
 pub struct MemoryDoor<P> {
     visits: VecDeque<Visit<P>>,
@@ -185,13 +186,14 @@ impl<P: FaultPlan + Send> Door for MemoryDoor<P> {
             self.last = Some(Answer::Failed);
             return Accept::Failed;
         }
-        let room = self.handed - self.ended.len() + 1;
-        if self.ended.reserve(room).is_err() {
-            self.last = Some(Answer::NoMemory);
-            return Accept::NoMemory;
-        }
         match self.visits.pop_front() {
             Some(Visit::Conn(mut link)) => {
+                let room = self.handed - self.ended.len() + 1;
+                if self.ended.reserve(room).is_err() {
+                    self.visits.push_front_reserved(Visit::Conn(link));
+                    self.last = Some(Answer::NoMemory);
+                    return Accept::NoMemory;
+                }
                 link.restart();
                 self.handed += 1;
                 self.last = Some(Answer::Conn);
