@@ -1,6 +1,6 @@
 -- Files that appear one after another.
-use Rattle.std.proofs.Common.{◌≡◌, ℕ, Bool, true, false, List, [], ◌∷◌, ◌++◌, refl, ap, ◌∙◌, append_assoc}
-use Rattle.std.specs.Prelude.{nat_le, if◌then◌else◌}
+use Rattle.std.proofs.Common.{◌≡◌, ℕ, Bool, true, false, List, [], ◌∷◌, ◌++◌, ◌≢◌, refl, sym, ap, ◌∙◌, append_assoc, arith}
+use Rattle.std.specs.Prelude.{length, nat_le, if◌then◌else◌}
 use Rattle.std.specs.FinMap.{contains_key}
 use Rattle.lg_io.specs.declared.memory.files.Appearance.{Appearance}
 use Rattle.lg_io.specs.Appearances.{path_of, due_before, left_before, with_file, maps_with}
@@ -39,3 +39,9 @@ due_before-cons call file files due = ap (λ b. if b then file ∷ due_before ca
 pub left_before-cons : (call : ℕ) (file : Appearance) (files : List Appearance) → nat_le file.call call ≡ true
     → left_before call (file ∷ files) ≡ left_before call files
 left_before-cons call file files due = ap (λ b. if b then left_before call files else file ∷ files) due
+
+-- a file of its time is due
+pub due_before-some : (call : ℕ) (file : Appearance) (coming later : List Appearance) → coming ≡ file ∷ later → nat_le file.call call ≡ true
+    → due_before call coming ≢ []
+due_before-some call file coming later next due none =
+    omega (arith, ap length (sym none ∙ ap (due_before call) next ∙ due_before-cons call file later due))

@@ -81,6 +81,7 @@ by_script due before grown after fails answer left begins stops maps last plan c
   fails = λ is. stops (begins.fails_then is);
   goes_on = ap due plan ∙ begins.goes_on;
   counts = calls ∙ begins.counts;
+  late = λ none. ap (λ l. l.met) late ∙ begins.late none;
   maps = λ same. maps ∙ ap (λ ms. ms ++ left ∷ []) (begins.maps (sym (ap (λ l. l.met) late) ∙ same)) ∙ ap (λ m. grown_maps before ++ m ∷ []) (sym last);
   ahead = λ same. ap (λ c. c.items) coming ∙ begins.ahead (sym (ap (λ l. l.met) late) ∙ same);
 }

@@ -45,6 +45,7 @@ pub record BeginsByScript {P : Type 0} (due : P → ℕ → Bool) (old new : Mem
   pub fails_then : IsTrue (files_fail due old 0) → IsTrue fails
   pub goes_on : files_fail due new ≡ behind (files_fail due old)
   pub counts : calls_made new ≡ min (calls_made old + 1) (2 ^ 64 - 1)
+  pub late : due_before (calls_made old) (files_ahead old) ≡ [] → late_files new ≡ late_files old
   pub maps : late_files new ≡ late_files old → held_maps new ≡ grown_maps old
   pub ahead : late_files new ≡ late_files old → files_ahead new ≡ left_before (calls_made old) (files_ahead old)
 
@@ -54,5 +55,6 @@ pub record CallsByScript {P : Type 0} (due : P → ℕ → Bool) (old new : Memo
   pub fails : IsTrue (files_fail due old 0) → answer ≡ failed
   pub goes_on : files_fail due new ≡ behind (files_fail due old)
   pub counts : calls_made new ≡ min (calls_made old + 1) (2 ^ 64 - 1)
+  pub late : due_before (calls_made old) (files_ahead old) ≡ [] → late_files new ≡ late_files old
   pub maps : late_files new ≡ late_files old → held_maps new ≡ grown_maps old ++ present (held_maps new) ∷ []
   pub ahead : late_files new ≡ late_files old → files_ahead new ≡ left_before (calls_made old) (files_ahead old)

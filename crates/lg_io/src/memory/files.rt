@@ -1,4 +1,4 @@
-ghost use Rattle.std.specs.Prelude.{◌≡◌, ◌++◌, codes, ℕ, true, nat_le, IfOk, OnOk, MatchOption, IfSome, ◌<◌, [], ◌∷◌, option_map};
+ghost use Rattle.std.specs.Prelude.{◌≡◌, ◌≢◌, ◌++◌, codes, ℕ, true, nat_le, IfOk, OnOk, OnErr, MatchOption, IfSome, ◌<◌, [], ◌∷◌, option_map};
 ghost use Rattle.std.specs.FinMap as map;
 ghost use Rattle.std.specs.VecDeque.{deque_len};
 ghost use base.Stored.{Coded-set};
@@ -96,6 +96,7 @@ impl<P> MemoryFiles<P> {
         ensures maps { OnOk result (held_maps self.new ≡ held_maps self.old
             ++ maps_with (present (held_maps self.old)) (due_before call (files_ahead self.old))) }
         ensures ahead { OnOk result (files_ahead self.new ≡ left_before call (files_ahead self.old)) }
+        ensures due { OnErr result (due_before call (files_ahead self.old) ≢ []) }
         ensures calls { self.new.history.calls ≡ self.old.history.calls }
         ensures count { self.new.calls ≡ self.old.calls }
         ensures plan { self.new.plan ≡ self.old.plan }

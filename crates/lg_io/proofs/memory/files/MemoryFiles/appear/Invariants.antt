@@ -1,4 +1,4 @@
-use Rattle.std.proofs.Common.{◌≡◌, ◌++◌}
+use Rattle.std.proofs.Common.{◌≡◌, ◌≢◌, [], ◌++◌}
 use Rattle.std.specs.VecDeque.{deque_len}
 use Rattle.lg_io.specs.Files.{HasGrown, present}
 use Rattle.lg_io.specs.Appearances.{due_before, left_before, maps_with}
@@ -13,6 +13,7 @@ invariant-loop-file g l =
       maps : held_maps l.self ++ maps_with (present (held_maps l.self)) (due_before l.call (files_ahead l.self))
           ≡ held_maps l.fn.self ++ maps_with (present (held_maps l.fn.self)) (due_before l.call (files_ahead l.fn.self));
       ahead : left_before l.call (files_ahead l.self) ≡ left_before l.call (files_ahead l.fn.self);
+      due : due_before l.call (files_ahead l.self) ≢ [] → due_before l.call (files_ahead l.fn.self) ≢ [];
       calls : l.self.history.calls ≡ l.fn.self.history.calls;
       count : l.self.calls ≡ l.fn.self.calls;
       plan : l.self.plan ≡ l.fn.self.plan;
