@@ -146,5 +146,5 @@ none_out base journal lane connections None now before calls so_far none = rw so
 none_out base journal lane connections (Some old) now before calls so_far none =
     let lane' = so_far.2.as_lane in
     let ended : length so_far.0.ended ≡ length old.ended + length so_far.2.sessions =
-        ap length lane'.links ∙ length-append old.ended _ ∙ ap (λ n. length old.ended + n) (length-map so_far.2.sessions (λ (s : Session). s.link)) in
+    ap length lane'.links ∙ length-append old.ended _ ∙ ap (λ n. length old.ended + n) (length-map so_far.2.sessions (λ (s : Session). s.link)) in
     rw so_far.1 (omega (arith, ended, lane'.all_back, none))
