@@ -28,6 +28,10 @@ net_binds net = option_map (map bind_call) (net_log net).told
 abbrev pub net_faults : {P : Type 0} → (P → ℕ) → MemoryNet P → ℕ
 net_faults faults net = faults net.plan + net.lacks.met
 
+-- how often the address of a call found no memory
+abbrev pub net_unwritten : {P : Type 0} → MemoryNet P → ℕ
+net_unwritten net = net.unwritten.met
+
 -- the doors that are left
 abbrev pub net_doors : {P : Type 0} → MemoryNet P → List (MemoryDoor P)
 net_doors net = net.doors.items
@@ -49,12 +53,14 @@ door_ahead fails door = record { script = door_script fails door; moments = mome
 abbrev pub bind_fails : {P : Type 0} → (P → ℕ → Bool) → MemoryNet P → ℕ → Bool
 bind_fails due net doors = net_fails due net 0 || nat_lt (length (net_doors net)) doors
 
--- one call: it fails exactly where it has to, and else hands out the next doors, begun anew, if it found memory
+-- One call: it fails exactly where it has to, and else hands out the next doors, begun anew, if it found memory.
+-- It is told, if its address found memory.
 pub record BindsByScript {P : Type 0} (due script : P → ℕ → Bool) (old new : MemoryNet P) (call : BindEvent)
     (answer : Result (Vec (MemoryDoor P) Global) BindFault) : Type 0 where
   pub fails : (answer ≡ Err Failed) ↔ IsTrue (bind_fails due old call.doors)
   pub gives : IfOk answer (λ doors.
       map (door_ahead due) doors.items ≡ map (door_ahead script) (take call.doors (net_doors old)))
   pub left : net_doors new ≡ (if is_ok answer then drop call.doors (net_doors old) else net_doors old)
-  pub told : IsOk answer → net_log new ≡ with_call (net_log old) call
+  pub written : IsOk answer → net_unwritten new ≡ net_unwritten old
+  pub told : net_unwritten new ≡ net_unwritten old → net_log new ≡ with_call (net_log old) call
   pub goes_on : net_fails due new ≡ behind (net_fails due old)

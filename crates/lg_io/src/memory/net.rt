@@ -1,9 +1,9 @@
-ghost use Rattle.std.specs.Prelude.{◌≡◌, All, option_map, map, Some, None, [], ◌∷◌, IfOk, IsErrOf, OnOk, OnErr, length};
+ghost use Rattle.std.specs.Prelude.{◌≡◌, All, option_map, map, Some, None, [], ◌∷◌, IfOk, IsErr, IsErrOf, OnOk, OnErr, length};
 ghost use Rattle.lg_io.specs.declared.net.BindFault.TheVariants.{Failed};
 ghost use Rattle.lg_io.specs.CallList.{with_call};
 ghost use Rattle.lg_io.specs.Cause.{HasCause};
 ghost use Rattle.lg_io.specs.MemoryDoor.{IsUnusedDoor};
-ghost use Rattle.lg_io.specs.MemoryNet.{net_log, net_binds, net_faults, net_doors, net_fails, door_ahead, BindsByScript};
+ghost use Rattle.lg_io.specs.MemoryNet.{net_log, net_binds, net_faults, net_unwritten, net_doors, net_fails, door_ahead, BindsByScript};
 ghost use Rattle.lg_io.specs.Tells.{TellsOn};
 
 use super::{CallList, FaultPlan, MemoryDoor};
@@ -26,6 +26,7 @@ pub struct MemoryNet<P> {
     doors: Vec<MemoryDoor<P>>,
     plan: P,
     lacks: Tally,
+    unwritten: Tally,
     binds: CallList<BindEvent>,
 }
 
@@ -48,6 +49,7 @@ impl<P: FaultPlan> MemoryNet<P> {
             doors,
             plan,
             lacks: Tally::none(),
+            unwritten: Tally::none(),
         })
     }
 
@@ -63,11 +65,13 @@ impl<P: FaultPlan> MemoryNet<P> {
         ensures told { OnOk result (net_log self.new
             ≡ with_call (net_log self.old) (record { address = address.now; port = port; doors = doors })) }
         ensures untold { OnErr result (net_binds self.new ≡ None) }
+        ensures cause { HasCause (net_unwritten self.old) (net_unwritten self.new) (IsErr result) }
         ensures doors { self.new.doors ≡ self.old.doors }
         ensures plan { self.new.plan ≡ self.old.plan }
         ensures lacks { self.new.lacks ≡ self.old.lacks }
     {
         let Ok(address) = Text::copied(alloc, address.as_str()) else {
+            self.unwritten = self.unwritten.with_one_more();
             self.binds.lose();
             return Err(NoMemory);
         };
