@@ -61,7 +61,7 @@ coming-le-place callers n Undoes = omega arith
 coming-le-place callers n Alone = omega arith
 
 module _ {V I B : Type 0} (items : V → List I) (number : I → ℕ) (base : V → B) where
-  fits_moved : (origin : B) (list : List I) (move : ℕ × ℕ) (accounts : List (Account I B)) → All (Fits items number base origin list) accounts → All (Fits items number base origin list) (map (moved move) accounts)
+  pub fits_moved : (origin : B) (list : List I) (move : ℕ × ℕ) (accounts : List (Account I B)) → All (Fits items number base origin list) accounts → All (Fits items number base origin list) (map (moved move) accounts)
   fits_moved origin list move accounts fits = All-map (Fits items number base origin list) (moved move) accounts
       (All-weaker (Fits items number base origin list) (λ (a : Account I B). Fits items number base origin list (moved move a))
       (λ a f. record { base_is = f.base_is; begins = f.begins; own_is = f.own_is; own_seen = f.own_seen }) accounts fits)

@@ -16,6 +16,7 @@ pub mod Gathering
 pub mod Shares
 pub mod Rolls
 pub mod Enrolling
+pub mod Refusing
 pub mod Releasing
 pub mod Parting
 pub mod Lone

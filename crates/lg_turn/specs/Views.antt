@@ -30,6 +30,10 @@ drawing found = (found, found + 4294967297)
 abbrev pub leaving : ℕ → ℕ × ℕ
 leaving found = (found, found - 1)
 
+-- what a refused split put in too much is taken out
+abbrev pub releasing : ℕ → ℕ → ℕ × ℕ
+releasing excess found = (found, found - excess)
+
 -- nothing changes
 abbrev pub looking : ℕ → ℕ × ℕ
 looking found = (found, found)
