@@ -15,13 +15,13 @@ use Rattle.lg_turn.specs.declared.view.Account.{Account}
 use Rattle.lg_turn.specs.declared.view.View.{View}
 use Rattle.lg_turn.specs.declared.view.Stage.{Stage}
 use Rattle.lg_turn.specs.declared.view.Stage.TheVariants.{Idle, Waits, Holds, Enrols, Undoes, Alone}
-use Rattle.lg_turn.specs.Views.{drawing, looking, view_of, number_in, seen_in, drawn_in, out_in, of_pass, Precedes, MayFollow}
-use Rattle.lg_turn.specs.Rule.{passes_of, with_number, low_of, out_of, undone_of, values_of, tickets_of, with_ticket, ticket_count, same_ticket, value_count, place_count, out_count, undone_count, same_number, low_count, coming_count, made_of, draws_of, times, Fits, Knows, Told, Roll, IsKept}
+use Rattle.lg_turn.specs.Views.{drawing, looking, draw_count, going_count, gone_in, view_of, number_in, seen_in, drawn_in, out_in, of_pass, Precedes, MayFollow}
+use Rattle.lg_turn.specs.Rule.{passes_of, with_number, low_of, out_of, undone_of, values_of, tickets_of, with_ticket, ticket_count, same_ticket, value_count, place_count, out_count, undone_count, same_number, low_count, coming_count, made_of, moves_of, times, Fits, Knows, Told, Roll, IsKept}
 use Rattle.lg_turn.specs.Steps.{moved, Enrolls, Counts}
 use Rattle.lg_turn.proofs.Sums.{sum_by_set, each_set, part-le-sum_by}
-use Rattle.lg_turn.proofs.Counts.{one_if_same, none_if_other, one_low, none_low}
+use Rattle.lg_turn.proofs.Counts.{one_if_same, none_if_other, one_low, none_low, none_goes}
 use Rattle.lg_turn.proofs.Parts.{sum_stays, entered_below, lows-le-passes}
-use Rattle.lg_turn.proofs.Accounts.{numbers_map, lows_map, draws-le-moved, draws-lt-moved}
+use Rattle.lg_turn.proofs.Accounts.{numbers_map, lows_map, moves_moved, draws-le-moved, draws-lt-moved}
 use Rattle.lg_turn.proofs.Entries.{of_pass-undrawn, of_pass-none_before}
 use Rattle.lg_turn.proofs.Told.{told_on, precedes_by, each_found_set, each_word_moved, each_word_weaker}
 use Rattle.lg_turn.proofs.Rolls.{upper_half, lower_half, outs_few, undone_few, places-le-out}
@@ -146,11 +146,28 @@ module _ {V I B : Type 0} (items : V → List I) (number : I → ℕ) (base : V 
       given_moved : (stage : Stage) (n : ℕ) → sum_by (made_of callers n) (set s.views id (at_stage stage)) ≡ sum_by (made_of callers n) s.views + coming_count callers n stage
       given_moved stage n = let m = sum_by_set (made_of callers n) s.views id v (at_stage stage) at in omega (arith, m, numbers_map (moved move) (λ a. refl) n accounts)
 
-      draws_moved : (stage : Stage) → sum_by draws_of s.views ≤ sum_by draws_of (set s.views id (at_stage stage))
-      draws_moved stage = let m = sum_by_set draws_of s.views id v (at_stage stage) at in omega (arith, m, draws-le-moved move accounts)
+      draws_moved : (stage : Stage) → sum_by (moves_of draw_count) s.views ≤ sum_by (moves_of draw_count) (set s.views id (at_stage stage))
+      draws_moved stage = let m = sum_by_set (moves_of draw_count) s.views id v (at_stage stage) at in omega (arith, m, draws-le-moved move accounts)
 
-      draws_drawn : drawn_in move.0 < drawn_in move.1 → (stage : Stage) → sum_by draws_of s.views + 1 ≤ sum_by draws_of (set s.views id (at_stage stage))
-      draws_drawn later stage = let m = sum_by_set draws_of s.views id v (at_stage stage) at in omega (arith, m, draws-lt-moved move accounts some_pass later)
+      draws_drawn : drawn_in move.0 < drawn_in move.1 → (stage : Stage) → sum_by (moves_of draw_count) s.views + 1 ≤ sum_by (moves_of draw_count) (set s.views id (at_stage stage))
+      draws_drawn later stage = let m = sum_by_set (moves_of draw_count) s.views id v (at_stage stage) at in omega (arith, m, draws-lt-moved move accounts some_pass later)
+
+      -- nobody goes where the move is from this word to another by which nobody has gone
+      gone_after : (later : ℕ) → ((P : ℕ → Type 0) → P found → P later → P move.0 × P move.1) → gone_in later ≡ gone_in found → (stage : Stage) (n : ℕ) → sum_by (moves_of (going_count n)) (set s.views id (at_stage stage)) ≡ cond (nat_lt n (gone_in later)) 1 0
+      gone_after later both same stage n =
+          let m = sum_by_set (moves_of (going_count n)) s.views id v (at_stage stage) at in
+          let as_found = both (λ word. gone_in word ≡ gone_in found) refl same in
+          let none = none_goes n move (omega (arith, as_found)) in
+          let stays : sum_by (moves_of (going_count n)) (set s.views id (at_stage stage)) ≡ sum_by (moves_of (going_count n)) s.views = omega (arith, m, moves_moved (going_count n) move none accounts) in
+          stays ∙ k.roll.gone n ∙ ap (λ (word : ℕ). cond (nat_lt n (gone_in word)) 1 0) (sym found_is) ∙ ap (λ (g : ℕ). cond (nat_lt n g) 1 0) (sym same)
+
+      none_gone : gone_in (found + 4294967297) ≡ gone_in found
+      none_gone =
+          let few = outs_few items number base callers origin s k in
+          let counted = k.roll.counted in
+          let up = upper_half (found + 4294967297) (k.next + U + 1) (O + 1) (omega (arith, found_is, counted)) (omega (arith, few)) in
+          let low = lower_half (found + 4294967297) (k.next + U + 1) (O + 1) (omega (arith, found_is, counted)) (omega (arith, few)) in
+          omega (arith, drawn_is, out_is, up, low)
 
       fits : All (Fits items number base origin k.list) (map (moved move) accounts)
       fits = fits_moved origin k.list move accounts (k.each_pass id v at).fits
@@ -191,6 +208,7 @@ module _ {V I B : Type 0} (items : V → List I) (number : I → ℕ) (base : V 
             counted = omega (arith, r.counted, found_is, undone_moved Undoes, out_moved Undoes);
             fewer = (let fewer = r.fewer in omega (arith, fewer, undone_moved Undoes, out_moved Undoes));
             drawn = (let d = r.drawn in let more = draws_moved Undoes in omega (arith, d, more));
+            gone = gone_after (found + 4294967297) both none_gone Undoes;
             told = told_drawn both Undoes;
             small = small;
             spent = λ _. all_drawn;
@@ -239,6 +257,7 @@ module _ {V I B : Type 0} (items : V → List I) (number : I → ℕ) (base : V 
             counted = omega (arith, r.counted, found_is, undone_moved new_stage, out_moved new_stage);
             fewer = (let fewer = r.fewer in omega (arith, fewer, undone_moved new_stage, out_moved new_stage));
             drawn = (let d = r.drawn in let more = draws_drawn later new_stage in omega (arith, d, more));
+            gone = gone_after (found + 4294967297) both none_gone new_stage;
             told = told_drawn both new_stage;
             small = omega (arith, h, m);
             spent = λ l. absurd (omega (arith, l, z, undone_moved new_stage));
@@ -289,6 +308,7 @@ module _ {V I B : Type 0} (items : V → List I) (number : I → ℕ) (base : V 
             counted = omega (arith, r.counted, found_is, undone_moved Alone, out_moved Alone);
             fewer = (let fewer = r.fewer in omega (arith, fewer, undone_moved Alone, out_moved Alone));
             drawn = (let d = r.drawn in let more = draws_moved Alone in omega (arith, d, more));
+            gone = gone_after found both refl Alone;
             told = told_found both Alone;
             small = r.small;
             spent = λ l. r.spent (omega (arith, l, undone_moved Alone));
@@ -305,6 +325,7 @@ module _ {V I B : Type 0} (items : V → List I) (number : I → ℕ) (base : V 
             counted = omega (arith, r.counted, found_is, undone_moved Idle, out_moved Idle);
             fewer = (let fewer = r.fewer in omega (arith, fewer, undone_moved Idle, out_moved Idle));
             drawn = (let d = r.drawn in let more = draws_moved Idle in omega (arith, d, more));
+            gone = gone_after found both refl Idle;
             told = told_found both Idle;
             small = r.small;
             spent = λ l. r.spent (omega (arith, l, undone_moved Idle));

@@ -1,5 +1,5 @@
 -- What a pass knows of the one list, and where it stands. This project's own.
-use Rattle.std.specs.Prelude.{◌≡◌, ℕ, ◌+◌, ◌-◌, ◌*◌, ◌/◌, ◌%◌, ◌<◌, ◌≤◌, ◌==◌, All, nat_lt, if◌then◌else◌, List, [], ◌∷◌, ◌++◌, length, filter, sum_by, Option, Some, None, Bool, true, false, ◌&&◌, is_none}
+use Rattle.std.specs.Prelude.{◌≡◌, ℕ, ◌+◌, ◌-◌, ◌*◌, ◌/◌, ◌%◌, ◌<◌, ◌≤◌, ◌==◌, All, nat_lt, if◌then◌else◌, List, [], ◌∷◌, ◌++◌, length, filter, Option, Some, None, Bool, true, false, ◌&&◌, is_none}
 use Rattle.atomic_table.specs.Table.{Me}
 use Rattle.lg_turn.specs.declared.view.Account.{Account}
 use Rattle.lg_turn.specs.declared.view.View.{View}
@@ -38,9 +38,13 @@ releasing excess found = (found, found - excess)
 abbrev pub looking : ℕ → ℕ × ℕ
 looking found = (found, found)
 
--- how many of the moves draw a number
-abbrev pub draws_in : List (ℕ × ℕ) → ℕ
-draws_in moves = sum_by (λ m. if nat_lt (drawn_in m.0) (drawn_in m.1) then 1 else 0) moves
+-- 1 for a move that draws a number
+abbrev pub draw_count : ℕ × ℕ → ℕ
+draw_count move = if nat_lt (drawn_in move.0) (drawn_in move.1) then 1 else 0
+
+-- 1 for a move by which a pass goes, behind so many others
+abbrev pub going_count : ℕ → ℕ × ℕ → ℕ
+going_count n move = if nat_lt (gone_in move.0) (gone_in move.1) then (if gone_in move.0 == n then 1 else 0) else 0
 
 module _ {I : Type 0} where
   -- of two beginnings of one list the longer one

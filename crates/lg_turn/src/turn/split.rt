@@ -28,6 +28,7 @@ fn enrol<V: Keeps>(shared: &SharedOf<V>, seat: &mut SeatOf<V>) -> u64
 // Takes out of the roll what a pass has too many in it. Answers the roll as it was.
 fn release<V: Keeps>(shared: &SharedOf<V>, seat: &mut SeatOf<V>, excess: u64) -> u64
     requires turn { (seat.old.table_id ≡ shared.now.table_id) × (shared.now.table_id.words ≡ 3) }
+    requires pass { length seat.old.me.0.accounts ≡ 1 }
     requires owes { (out_count seat.old.me.0.stage ≡ 1) × (excess ≡ undone_count seat.old.me.0.stage * 4294967296 + 1) × (seat.old.me.1 ≡ []) }
     ensures same { (seat.new.table_id ≡ seat.old.table_id) × (seat.new.id ≡ seat.old.id) }
     ensures released { HasReleased excess seat.old.me result seat.new.me }
