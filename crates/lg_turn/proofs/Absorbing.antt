@@ -14,11 +14,11 @@ use Rattle.atomic_table.specs.Table.{State, Act, Me, step, keeps, stepped, carri
 use Rattle.lg_turn.specs.declared.view.Account.{Account}
 use Rattle.lg_turn.specs.declared.view.View.{View}
 use Rattle.lg_turn.specs.declared.view.Stage.TheVariants.{Idle}
-use Rattle.lg_turn.specs.Views.{leaving, draw_count, going_count, gone_in, BeginsWith, of_pass, account_of, view_of, number_in, seen_in, longer, drawn_in, out_in, Precedes, MayFollow}
+use Rattle.lg_turn.specs.Views.{leaving, rise_count, gone_in, BeginsWith, of_pass, account_of, view_of, number_in, seen_in, longer, drawn_in, out_in, Precedes, MayFollow}
 use Rattle.lg_turn.specs.Rule.{passes_of, with_number, made_of, moves_of, low_of, out_of, undone_of, Told, Fits, Roll, IsKept}
 use Rattle.lg_turn.specs.Steps.{Absorbs}
 use Rattle.lg_turn.proofs.Sums.{sum_by_set, part-le-sum_by}
-use Rattle.lg_turn.proofs.Counts.{one_if_same, one_goes}
+use Rattle.lg_turn.proofs.Counts.{one_if_same, no_rise, one_rise}
 use Rattle.lg_turn.proofs.Entries.{of_pass-between}
 use Rattle.lg_turn.proofs.Told.{told_on, precedes_by, each_found_set, each_word_one, each_word_weaker}
 use Rattle.lg_turn.proofs.Rolls.{outs_few, undone_few, upper_half, lower_half}
@@ -138,12 +138,19 @@ module _ {V I B : Type 0} (items : V → List I) (number : I → ℕ) (base : V 
     low_after : out_in left ≡ O - 1
     low_after = let few = outs_few items number base callers origin s k in lower_half left numbers_now (O - 1) left_is (omega (arith, few))
 
-    gone_after : (n : ℕ) → sum_by (moves_of (going_count n)) (set s.views id w) ≡ cond (nat_lt n (gone_in left)) 1 0
+    drawn_after : (n : ℕ) → n < 4294967168 → sum_by (moves_of (rise_count drawn_in n)) (set s.views id w) ≡ cond (nat_lt n (drawn_in left)) 1 0
+    drawn_after n small =
+        let none = no_rise drawn_in n (leaving k.word) (omega (arith, up, up_after)) in
+        let same : drawn_in left ≡ drawn_in k.word = omega (arith, up, up_after) in
+        let stays : sum_by (moves_of (rise_count drawn_in n)) (set s.views id w) ≡ sum_by (moves_of (rise_count drawn_in n)) s.views = omega (arith, moves_after (rise_count drawn_in n), none) in
+        stays ∙ k.roll.drawn n small ∙ ap (λ (m : ℕ). cond (nat_lt n m) 1 0) (sym same)
+
+    gone_after : (n : ℕ) → sum_by (moves_of (rise_count gone_in n)) (set s.views id w) ≡ cond (nat_lt n (gone_in left)) 1 0
     gone_after n =
         let fewer = k.roll.fewer in
-        let one = one_goes n (leaving k.word) (omega (arith, up, low, up_after, low_after, fewer, out_moved)) in
+        let one = one_rise gone_in n (leaving k.word) (omega (arith, up, low, up_after, low_after, fewer, out_moved)) in
         let before = k.roll.gone n in
-        omega (arith, moves_after (going_count n), one, before)
+        omega (arith, moves_after (rise_count gone_in n), one, before)
 
     told_absorbed : Told (k.word - 1) (set s.views id w)
     told_absorbed =
@@ -160,7 +167,7 @@ module _ {V I B : Type 0} (items : V → List I) (number : I → ℕ) (base : V 
         let r = k.roll in record {
           counted = omega (arith, r.counted, out_moved, undone_moved);
           fewer = (let fewer = r.fewer in omega (arith, fewer, out_moved, undone_moved));
-          drawn = (let d = r.drawn in omega (arith, d, moves_after draw_count));
+          drawn = drawn_after;
           gone = gone_after;
           told = told_absorbed;
           small = r.small;

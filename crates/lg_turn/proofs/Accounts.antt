@@ -1,15 +1,14 @@
 -- Accounts of passes that see more.
-use Rattle.std.proofs.Common.{◌≡◌, ℕ, ◌+◌, ◌<◌, ◌≤◌, List, [], ◌∷◌, map, length, arith, ap, sym, refl}
+use Rattle.std.proofs.Common.{◌≡◌, ℕ, ◌+◌, ◌<◌, List, [], ◌∷◌, map, length, arith, ap, sym, refl}
 use Rattle.std.specs.Prelude.{◌==◌, nat_lt, if◌then◌else◌}
 use Rattle.std.specs.List.{sum_by, All}
 use Rattle.std.proofs.lemmas.List.{append-nil}
 use Rattle.std.proofs.lemmas.List.Sums.{sum_by-cons}
 use Rattle.std.proofs.lemmas.List.Elements.{All-map, All-weaker}
 use Rattle.lg_turn.specs.declared.view.Account.{Account}
-use Rattle.lg_turn.specs.Views.{seen_in, drawn_in, draw_count}
+use Rattle.lg_turn.specs.Views.{seen_in}
 use Rattle.lg_turn.specs.Rule.{Fits}
 use Rattle.lg_turn.specs.Steps.{after_take, moved}
-use Rattle.lg_turn.proofs.Counts.{one_low}
 
 module _ {I B : Type 0} where
   -- the numbers stay where each account keeps its own
@@ -41,21 +40,14 @@ module _ {I B : Type 0} where
       → sum_by (λ (a : Account I B). sum_by count a.moves) (map (moved move) accounts) ≡ sum_by (λ (a : Account I B). sum_by count a.moves) accounts
   moves_moved count move none = moves_map count (moved move) (λ a. omega (arith, none, sum_by-cons count move a.moves))
 
-  -- the draws are no fewer after one more move
-  pub draws-le-moved : (move : ℕ × ℕ) (accounts : List (Account I B)) → sum_by (λ (a : Account I B). sum_by draw_count a.moves) accounts ≤ sum_by (λ (a : Account I B). sum_by draw_count a.moves) (map (moved move) accounts)
-  draws-le-moved move [] = omega arith
-  draws-le-moved move (a ∷ rest) =
-      let here = sum_by-cons draw_count move a.moves in
-      omega (arith, here, sum_by-cons (λ (b : Account I B). sum_by draw_count b.moves) (moved move a) (map (moved move) rest), sum_by-cons (λ (b : Account I B). sum_by draw_count b.moves) a rest, draws-le-moved move rest)
-
-  -- a number more is drawn
-  pub draws-lt-moved : (move : ℕ × ℕ) (accounts : List (Account I B)) → 0 < length accounts → drawn_in move.0 < drawn_in move.1
-      → sum_by (λ (a : Account I B). sum_by draw_count a.moves) accounts + 1 ≤ sum_by (λ (a : Account I B). sum_by draw_count a.moves) (map (moved move) accounts)
-  draws-lt-moved move [] some h = absurd (omega arith)
-  draws-lt-moved move (a ∷ rest) some h =
-      let here = sum_by-cons draw_count move a.moves in
-      let one : draw_count move ≡ 1 = one_low (drawn_in move.0) (drawn_in move.1) h in
-      omega (arith, here, one, sum_by-cons (λ (b : Account I B). sum_by draw_count b.moves) (moved move a) (map (moved move) rest), sum_by-cons (λ (b : Account I B). sum_by draw_count b.moves) a rest, draws-le-moved move rest)
+  -- one move more of one pass
+  pub one_moved : (count : ℕ × ℕ → ℕ) (move : ℕ × ℕ) (accounts : List (Account I B)) → length accounts ≡ 1
+      → sum_by (λ (a : Account I B). sum_by count a.moves) (map (moved move) accounts) ≡ sum_by (λ (a : Account I B). sum_by count a.moves) accounts + count move
+  one_moved count move [] h = absurd (omega arith)
+  one_moved count move (a ∷ []) h =
+      let moves : Account I B → ℕ = λ c. sum_by count c.moves in
+      omega (arith, sum_by-cons moves (moved move a) [], sum_by-cons moves a [], sum_by-cons count move a.moves)
+  one_moved count move (a ∷ b ∷ rest) h = absurd (omega arith)
 
   pub seen_in-after_take : (list : List I) (accounts : List (Account I B)) → 0 < length accounts → seen_in (map (after_take list) accounts) ≡ list
   seen_in-after_take list [] h = absurd (omega arith)

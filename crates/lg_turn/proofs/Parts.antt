@@ -13,7 +13,7 @@ use Rattle.lg_turn.specs.declared.view.View.{View}
 use Rattle.lg_turn.specs.declared.view.Stage.{Stage}
 use Rattle.lg_turn.specs.declared.view.Stage.TheVariants.{Idle, Waits, Holds, Enrols, Undoes, Alone}
 use Rattle.lg_turn.specs.Rule.{passes_of, with_number, out_of, undone_of, low_of, low_count, place_count, made_of, moves_of, times, EachFound, Roll}
-use Rattle.lg_turn.specs.Views.{EachWord, draw_count, going_count}
+use Rattle.lg_turn.specs.Views.{EachWord, drawn_in, gone_in, rise_count}
 use Rattle.lg_turn.proofs.Told.{told_same, each_found_set}
 use Rattle.lg_turn.proofs.Sums.{sum_by_set, sum_by-le-sum_by}
 
@@ -31,8 +31,8 @@ module _ {V I B : Type 0} (items : V → List I) (number : I → ℕ) (base : V 
   roll_on views views' r passes_less numbers_less out_same undone_same low_less found_same made_less moves_same = record {
     counted = r.counted ∙ (λ i. (next + sym undone_same i) * 4294967296 + sym out_same i);
     fewer = (let fewer = r.fewer in omega (arith, fewer, out_same, undone_same));
-    drawn = (let d = r.drawn in omega (arith, d, moves_same draw_count));
-    gone = λ n. moves_same (going_count n) ∙ r.gone n;
+    drawn = λ n low. moves_same (rise_count drawn_in n) ∙ r.drawn n low;
+    gone = λ n. moves_same (rise_count gone_in n) ∙ r.gone n;
     told = told_same word views views' r.told found_same;
     small = r.small;
     spent = λ h. r.spent (omega (arith, undone_same));

@@ -1,24 +1,23 @@
 -- A pass that takes out of the roll what it has too many there keeps the rule.
-use Rattle.std.proofs.Common.{◌≡◌, ℕ, ◌+◌, ◌-◌, ◌*◌, ◌%◌, ◌^◌, ◌≤◌, List, [], ◌∷◌, length, map, cond, ◌∙◌, set, get_or, arith, ap, sym, refl, subst, Option}
+use Rattle.std.proofs.Common.{◌≡◌, ℕ, ◌+◌, ◌-◌, ◌*◌, ◌%◌, ◌^◌, ◌<◌, ◌≤◌, List, [], length, map, cond, ◌∙◌, set, get_or, arith, ap, sym, refl, subst, Option}
 use mathlib.Core.Option.{some, none}
 use mathlib.Core.Logic.{dite}
 use native.Mathlib.Decide.{dec_le}
 use lib.ListN.{get_elem?}
 use Rattle.std.specs.Prelude.{nat_lt}
 use Rattle.std.specs.List.{sum_by}
-use Rattle.std.proofs.lemmas.List.Sums.{sum_by-cons}
 use Rattle.atomic_table.specs.Table.{State, Act, step, keeps, stepped, carried_after, Valid, Allows}
 use Rattle.lg_turn.specs.declared.view.Account.{Account}
 use Rattle.lg_turn.specs.declared.view.View.{View}
 use Rattle.lg_turn.specs.declared.view.Stage.{Stage}
 use Rattle.lg_turn.specs.declared.view.Stage.TheVariants.{Idle, Waits, Holds, Enrols, Undoes, Alone}
-use Rattle.lg_turn.specs.Views.{releasing, draw_count, going_count, gone_in, view_of, drawn_in, out_in, Precedes, MayFollow}
+use Rattle.lg_turn.specs.Views.{releasing, rise_count, gone_in, view_of, drawn_in, out_in, Precedes, MayFollow}
 use Rattle.lg_turn.specs.Rule.{passes_of, with_number, made_of, moves_of, low_of, out_of, undone_of, ticket_count, same_ticket, value_count, out_count, undone_count, Told, Roll, IsKept}
 use Rattle.lg_turn.specs.Steps.{moved, Releases}
 use Rattle.std.proofs.lemmas.List.{length-map}
 use Rattle.lg_turn.proofs.Sums.{sum_by_set}
-use Rattle.lg_turn.proofs.Accounts.{numbers_map, lows_map, draws-le-moved, moves_moved}
-use Rattle.lg_turn.proofs.Counts.{none_goes, one_goes}
+use Rattle.lg_turn.proofs.Accounts.{numbers_map, lows_map, moves_moved, one_moved}
+use Rattle.lg_turn.proofs.Counts.{one_low, no_rise, one_rise}
 use Rattle.lg_turn.proofs.Rolls.{outs_few, undone_few, upper_half, lower_half}
 use Rattle.lg_turn.proofs.Told.{told_on, precedes_by, each_found_set, each_word_moved, each_word_weaker}
 use Rattle.lg_turn.proofs.Enrolling.{fits_moved, rolled}
@@ -39,15 +38,6 @@ undone-le-one (Holds t) = omega arith
 undone-le-one (Enrols n out) = omega arith
 undone-le-one Undoes = omega arith
 undone-le-one Alone = omega arith
-
--- one move more of one pass
-one_moved : {I B : Type 0} (count : ℕ × ℕ → ℕ) (move : ℕ × ℕ) (accounts : List (Account I B)) → length accounts ≡ 1
-    → sum_by (λ (a : Account I B). sum_by count a.moves) (map (moved move) accounts) ≡ sum_by (λ (a : Account I B). sum_by count a.moves) accounts + count move
-one_moved count move [] h = absurd (omega arith)
-one_moved {I} {B} count move (a ∷ []) h =
-    let moves : Account I B → ℕ = λ c. sum_by count c.moves in
-    omega (arith, sum_by-cons moves (moved move a) [], sum_by-cons moves a [], sum_by-cons count move a.moves)
-one_moved count move (a ∷ b ∷ rest) h = absurd (omega arith)
 
 module _ {V I B : Type 0} (items : V → List I) (number : I → ℕ) (base : V → B) (callers : ℕ) (origin : B) where
   abbrev Rule : State (Option V) (View I B) → Type 0
@@ -119,18 +109,30 @@ module _ {V I B : Type 0} (items : V → List I) (number : I → ℕ) (base : V 
     low_after : out_in left ≡ sum_by out_of s.views - 1
     low_after = let few = outs_few items number base callers origin s k in lower_half left (numbers_now - undone_count stage) (sum_by out_of s.views - 1) left_is (omega (arith, few))
 
+    drawn_after : (n : ℕ) → n < 4294967168 → sum_by (moves_of (rise_count drawn_in n)) (set s.views id w) ≡ cond (nat_lt n (drawn_in left)) 1 0
+    drawn_after n small =
+        let m = sum_by_set (moves_of (rise_count drawn_in n)) s.views id v w at in
+        let none = no_rise drawn_in n move (omega (arith, up, up_after)) in
+        let stays : sum_by (moves_of (rise_count drawn_in n)) (set s.views id w) ≡ sum_by (moves_of (rise_count drawn_in n)) s.views = omega (arith, m, moves_moved (rise_count drawn_in n) move none accounts) in
+        let before = k.roll.drawn n small in
+        let one = undone-le-one stage in
+        dite (dec_le (undone_count stage) 0)
+        (λ z. let same : drawn_in left ≡ drawn_in k.word = omega (arith, z, up, up_after) in stays ∙ before ∙ ap (λ (d : ℕ). cond (nat_lt n d) 1 0) (sym same))
+        (λ some. let all_drawn = k.roll.spent (omega (arith, some, undone_moved)) in
+        omega (arith, stays, before, one_low n (drawn_in k.word) (omega (arith, up, all_drawn, small)), one_low n (drawn_in left) (omega (arith, up_after, all_drawn, small, one, undone_moved))))
+
     -- where the number is undone too nobody goes
-    gone_after : (n : ℕ) → sum_by (moves_of (going_count n)) (set s.views id w) ≡ cond (nat_lt n (gone_in left)) 1 0
+    gone_after : (n : ℕ) → sum_by (moves_of (rise_count gone_in n)) (set s.views id w) ≡ cond (nat_lt n (gone_in left)) 1 0
     gone_after n =
         let fewer = k.roll.fewer in
         let one = undone-le-one stage in
         let before = k.roll.gone n in
-        let m = sum_by_set (moves_of (going_count n)) s.views id v w at in
+        let m = sum_by_set (moves_of (rise_count gone_in n)) s.views id v w at in
         dite (dec_le (undone_count stage) 0)
-        (λ z. let goes = one_goes n move (omega (arith, z, up, low, up_after, low_after, fewer, out_moved, undone_moved)) in omega (arith, goes, before, m, one_moved (going_count n) move accounts one_pass))
+        (λ z. let goes = one_rise gone_in n move (omega (arith, z, up, low, up_after, low_after, fewer, out_moved, undone_moved)) in omega (arith, goes, before, m, one_moved (rise_count gone_in n) move accounts one_pass))
         (λ some. let same : gone_in left ≡ gone_in k.word = omega (arith, some, one, up, low, up_after, low_after, fewer, out_moved, undone_moved) in
-        let none = none_goes n move (omega (arith, same)) in
-        let stays : sum_by (moves_of (going_count n)) (set s.views id w) ≡ sum_by (moves_of (going_count n)) s.views = omega (arith, m, moves_moved (going_count n) move none accounts) in
+        let none = no_rise gone_in n move (omega (arith, same)) in
+        let stays : sum_by (moves_of (rise_count gone_in n)) (set s.views id w) ≡ sum_by (moves_of (rise_count gone_in n)) s.views = omega (arith, m, moves_moved (rise_count gone_in n) move none accounts) in
         stays ∙ before ∙ ap (λ (g : ℕ). cond (nat_lt n g) 1 0) (sym same))
 
     told_released : Told (k.word - excess) (set s.views id w)
@@ -149,7 +151,7 @@ module _ {V I B : Type 0} (items : V → List I) (number : I → ℕ) (base : V 
         let r = k.roll in record {
           counted = omega (arith, r.counted, out_moved, undone_moved, is);
           fewer = (let fewer = r.fewer in let one = undone-le-one stage in omega (arith, fewer, out_moved, undone_moved, one));
-          drawn = (let d = r.drawn in let m = sum_by_set (moves_of draw_count) s.views id v w at in omega (arith, d, m, draws-le-moved move accounts));
+          drawn = drawn_after;
           gone = gone_after;
           told = told_released;
           small = r.small;

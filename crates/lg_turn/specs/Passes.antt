@@ -18,12 +18,12 @@ abbrev pub last_found : List (ℕ × ℕ) → ℕ
 last_found [] = 0
 last_found (move ∷ earlier) = move.0
 
--- and at the one before it
+-- and at the move before it
 abbrev pub found_before_last : List (ℕ × ℕ) → ℕ
 found_before_last [] = 0
 found_before_last (move ∷ earlier) = last_found earlier
 
--- what a refused split put in the roll too much: a place, and past all numbers its number too
+-- what a refused split takes out of the roll again: its place, and past all numbers its number too
 abbrev pub excess_of : TurnFault → ℕ
 excess_of Many = 1
 excess_of Spent = 4294967297
@@ -85,7 +85,7 @@ module _ {V I B : Type 0} {G : Ghosts V I B} where
   abbrev pub HasMovedOnce : (ℕ → ℕ × ℕ) → Pass V I B G → Pass V I B G → Type 0
   HasMovedOnce move old new = (moves_by new ≡ move (found_by new) ∷ moves_by old) × Follows (found_by new) old
 
-  -- the pass made two moves on the roll: the word found at the second may follow on all that it knew, and on the first
+  -- the pass made two moves on the roll, and found at each a word that may follow on all that it knew before
   abbrev pub HasMovedTwice : (ℕ → ℕ × ℕ) → (ℕ → ℕ × ℕ) → Pass V I B G → Pass V I B G → Type 0
   HasMovedTwice move next old new =
       (moves_by new ≡ next (found_by new) ∷ move (found_before new) ∷ moves_by old)

@@ -38,13 +38,9 @@ releasing excess found = (found, found - excess)
 abbrev pub looking : ℕ → ℕ × ℕ
 looking found = (found, found)
 
--- 1 for a move that draws a number
-abbrev pub draw_count : ℕ × ℕ → ℕ
-draw_count move = if nat_lt (drawn_in move.0) (drawn_in move.1) then 1 else 0
-
--- 1 for a move by which a pass goes, behind so many others
-abbrev pub going_count : ℕ → ℕ × ℕ → ℕ
-going_count n move = if nat_lt (gone_in move.0) (gone_in move.1) then (if gone_in move.0 == n then 1 else 0) else 0
+-- 1 for a move by which what is tallied in a word, as the numbers drawn or the passes gone, rises from n
+abbrev pub rise_count : (ℕ → ℕ) → ℕ → ℕ × ℕ → ℕ
+rise_count tally n move = if nat_lt (tally move.0) (tally move.1) then (if tally move.0 == n then 1 else 0) else 0
 
 module _ {I : Type 0} where
   -- of two beginnings of one list the longer one

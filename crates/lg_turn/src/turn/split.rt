@@ -18,7 +18,7 @@ const NUMBERS: u64 = 4_294_967_168;
 // Enters one pass more, with the next number, in the roll. Answers the roll as it was.
 fn enrol<V: Keeps>(shared: &SharedOf<V>, seat: &mut SeatOf<V>) -> u64
     requires turn { (seat.old.table_id ≡ shared.now.table_id) × (shared.now.table_id.words ≡ 3) }
-    requires away { (0 < length seat.old.me.0.accounts) × (seat.old.me ≡ (view_of seat.old.me.0.accounts Idle, [])) }
+    requires away { (length seat.old.me.0.accounts ≡ 1) × (seat.old.me ≡ (view_of seat.old.me.0.accounts Idle, [])) }
     ensures same { (seat.new.table_id ≡ seat.old.table_id) × (seat.new.id ≡ seat.old.id) }
     ensures enrolled { HasEnrolled V.number seat.old.me result seat.new.me }
 {
@@ -50,11 +50,12 @@ fn part<V: Keeps>(shared: &SharedOf<V>, seat: &mut SeatOf<V>, number: u64, out: 
 
 impl<V: Keeps> Turn<V> {
     /// Makes a second pass of one. The second has the number that the call drew, which no pass had before, has seen what
-    /// the first has, and has made nothing; the first stays as it is, but for its one move on the roll. The call
-    /// finds in the roll how many numbers were drawn before it, and how many passes are out, where a split that is
+    /// the first has, and has made nothing; the first stays as it is, but for its moves on the roll. The call draws a
+    /// number, and finds in the roll how many were drawn before it, and how many passes are out, where a split that is
     /// under way counts for one more; this comes behind all that the pass had found or left there. It answers `Spent`
     /// exactly where it finds 4,294,967,168 numbers or more, and else `Many` exactly where it finds as many passes as
-    /// there are callers, or more; then the number was drawn in vain. It takes no memory, and waits for nobody.
+    /// there are callers, or more. Then the number was drawn in vain, and by a second move, behind the first, the place
+    /// is taken out of the roll again; at `Spent` so is the number. It takes no memory, and waits for nobody.
     pub fn split(&self, pass: &mut Pass<V>) -> Result<Pass<V>, TurnFault>
         requires turn { IsPassOf self.now pass.old }
         requires away { IsAway pass.old }
