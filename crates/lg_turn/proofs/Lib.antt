@@ -21,4 +21,5 @@ pub mod Releasing
 pub mod Parting
 pub mod Lone
 pub mod Numbers
+pub mod Telling
 pub mod Absorbing

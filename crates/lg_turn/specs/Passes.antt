@@ -52,9 +52,11 @@ module _ {V I B : Type 0} {G : Ghosts V I B} where
   abbrev pub moves_by : Pass V I B G → List (ℕ × ℕ)
   moves_by pass = moves_in pass.seat.me.0.accounts
 
+  -- the word found at the last move
   abbrev pub found_by : Pass V I B G → ℕ
   found_by pass = last_found (moves_by pass)
 
+  -- the word found at the move before the last one
   abbrev pub found_before : Pass V I B G → ℕ
   found_before pass = found_before_last (moves_by pass)
 
