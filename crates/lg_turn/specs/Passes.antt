@@ -18,7 +18,7 @@ abbrev pub last_found : List (ℕ × ℕ) → ℕ
 last_found [] = 0
 last_found (move ∷ earlier) = move.0
 
--- and at the move before it
+-- the word that was found at the move before the last one
 abbrev pub found_before_last : List (ℕ × ℕ) → ℕ
 found_before_last [] = 0
 found_before_last (move ∷ earlier) = last_found earlier
@@ -56,7 +56,7 @@ module _ {V I B : Type 0} {G : Ghosts V I B} where
   abbrev pub found_by : Pass V I B G → ℕ
   found_by pass = last_found (moves_by pass)
 
-  -- the word found at the move before the last one
+  -- the word found at the move before: by a refused split, at its drawing
   abbrev pub found_before : Pass V I B G → ℕ
   found_before pass = found_before_last (moves_by pass)
 

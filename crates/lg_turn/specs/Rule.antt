@@ -177,7 +177,7 @@ module _ {V I B : Type 0} (items : V → List I) (number : I → ℕ) (base : V 
     pub counted : word ≡ (next + sum_by undone_of views) * 4294967296 + sum_by out_of views
     -- there are never more out than numbers drawn
     pub fewer : sum_by out_of views ≤ next + sum_by undone_of views
-    -- each number that was drawn is told of once, and none that was not
+    -- each number that was drawn while any was left is told of once, and none that was not
     pub drawn : (n : ℕ) → n < 4294967168 → sum_by (moves_of (rise_count drawn_in n)) views ≡ (if nat_lt n (drawn_in word) then 1 else 0)
     -- and so is each pass that has gone
     pub gone : (n : ℕ) → sum_by (moves_of (rise_count gone_in n)) views ≡ (if nat_lt n (gone_in word) then 1 else 0)

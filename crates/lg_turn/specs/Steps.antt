@@ -81,7 +81,7 @@ module _ {V I B : Type 0} where
   abbrev pub HasMoved : Me (Option V) (View I B) → ℕ × ℕ → Stage → Me (Option V) (View I B) → Type 0
   HasMoved me move stage me' = me' ≡ (view_of (map (moved move) me.0.accounts) stage, me.1)
 
-  -- the roll is right again
+  -- what was too much was taken out, and the roll is right again
   abbrev pub HasReleased : ℕ → Me (Option V) (View I B) → ℕ → Me (Option V) (View I B) → Type 0
   HasReleased excess me found me' = HasMoved me (releasing excess found) Idle me' × MayFollow me.0.accounts found
 
