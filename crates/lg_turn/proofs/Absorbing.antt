@@ -14,11 +14,11 @@ use Rattle.atomic_table.specs.Table.{State, Act, Me, step, keeps, stepped, carri
 use Rattle.lg_turn.specs.declared.view.Account.{Account}
 use Rattle.lg_turn.specs.declared.view.View.{View}
 use Rattle.lg_turn.specs.declared.view.Stage.TheVariants.{Idle}
-use Rattle.lg_turn.specs.Views.{leaving, draws_in, BeginsWith, of_pass, account_of, view_of, number_in, seen_in, longer, drawn_in, out_in, Precedes, MayFollow}
-use Rattle.lg_turn.specs.Rule.{passes_of, with_number, made_of, draws_of, low_of, out_of, undone_of, Told, Fits, Roll, IsKept}
+use Rattle.lg_turn.specs.Views.{leaving, rise_count, gone_in, BeginsWith, of_pass, account_of, view_of, number_in, seen_in, longer, drawn_in, out_in, Precedes, MayFollow}
+use Rattle.lg_turn.specs.Rule.{passes_of, with_number, made_of, moves_of, low_of, out_of, undone_of, Told, Fits, Roll, IsKept}
 use Rattle.lg_turn.specs.Steps.{Absorbs}
 use Rattle.lg_turn.proofs.Sums.{sum_by_set, part-le-sum_by}
-use Rattle.lg_turn.proofs.Counts.{one_if_same}
+use Rattle.lg_turn.proofs.Counts.{one_if_same, no_rise, one_rise}
 use Rattle.lg_turn.proofs.Entries.{of_pass-between}
 use Rattle.lg_turn.proofs.Told.{told_on, precedes_by, each_found_set, each_word_one, each_word_weaker}
 use Rattle.lg_turn.proofs.Rolls.{outs_few, undone_few, upper_half, lower_half}
@@ -82,12 +82,11 @@ module _ {V I B : Type 0} (items : V → List I) (number : I → ℕ) (base : V 
         let m = sum_by_set (made_of callers n) s.views id v w at in
         omega (arith, m, sum_by-cons one b (a ∷ []), sum_by-cons one a [], sum_by-cons one one_pass [])
 
-    draws_moved : sum_by draws_of s.views ≤ sum_by draws_of (set s.views id w)
-    draws_moved =
-        let draws : Account I B → ℕ = λ c. draws_in c.moves in
-        let draw : ℕ × ℕ → ℕ = λ m. if nat_lt (drawn_in m.0) (drawn_in m.1) then 1 else 0 in
-        let m = sum_by_set draws_of s.views id v w at in
-        omega (arith, m, sum_by-cons draws b (a ∷ []), sum_by-cons draws a [], sum_by-cons draws one_pass [], sum_by-cons draw (leaving k.word) (a.moves ++ b.moves), sum_by-append draw a.moves b.moves)
+    moves_after : (count : ℕ × ℕ → ℕ) → sum_by (moves_of count) (set s.views id w) ≡ sum_by (moves_of count) s.views + count (leaving k.word)
+    moves_after count =
+        let moves : Account I B → ℕ = λ c. sum_by count c.moves in
+        let m = sum_by_set (moves_of count) s.views id v w at in
+        omega (arith, m, sum_by-cons moves b (a ∷ []), sum_by-cons moves a [], sum_by-cons moves one_pass [], sum_by-cons count (leaving k.word) (a.moves ++ b.moves), sum_by-append count a.moves b.moves)
 
     low_moved : sum_by (low_of callers) (set s.views id w) ≤ sum_by (low_of callers) s.views
     low_moved =
@@ -127,16 +126,37 @@ module _ {V I B : Type 0} (items : V → List I) (number : I → ℕ) (base : V 
         let small : n < k.next = dite (dec_lt n k.next) (λ h. h) (λ h. let z = (k.roll.numbers n).1 (omega (arith, h)) in absurd (omega (arith, z, part, mine))) in
         omega (arith, small, up)
 
+    abbrev left : ℕ
+    left = k.word - 1
+
+    left_is : left ≡ numbers_now * 4294967296 + (O - 1)
+    left_is = let counted = k.roll.counted in omega (arith, counted, out_moved)
+
+    up_after : drawn_in left ≡ numbers_now
+    up_after = let few = outs_few items number base callers origin s k in upper_half left numbers_now (O - 1) left_is (omega (arith, few))
+
+    low_after : out_in left ≡ O - 1
+    low_after = let few = outs_few items number base callers origin s k in lower_half left numbers_now (O - 1) left_is (omega (arith, few))
+
+    drawn_after : (n : ℕ) → n < 4294967168 → sum_by (moves_of (rise_count drawn_in n)) (set s.views id w) ≡ cond (nat_lt n (drawn_in left)) 1 0
+    drawn_after n small =
+        let none = no_rise drawn_in n (leaving k.word) (omega (arith, up, up_after)) in
+        let same : drawn_in left ≡ drawn_in k.word = omega (arith, up, up_after) in
+        let stays : sum_by (moves_of (rise_count drawn_in n)) (set s.views id w) ≡ sum_by (moves_of (rise_count drawn_in n)) s.views = omega (arith, moves_after (rise_count drawn_in n), none) in
+        stays ∙ k.roll.drawn n small ∙ ap (λ (m : ℕ). cond (nat_lt n m) 1 0) (sym same)
+
+    gone_after : (n : ℕ) → sum_by (moves_of (rise_count gone_in n)) (set s.views id w) ≡ cond (nat_lt n (gone_in left)) 1 0
+    gone_after n =
+        let fewer = k.roll.fewer in
+        let one = one_rise gone_in n (leaving k.word) (omega (arith, up, low, up_after, low_after, fewer, out_moved)) in
+        let before = k.roll.gone n in
+        omega (arith, moves_after (rise_count gone_in n), one, before)
+
     told_absorbed : Told (k.word - 1) (set s.views id w)
     told_absorbed =
-        let few = outs_few items number base callers origin s k in
-        let counted = k.roll.counted in
         let fewer = k.roll.fewer in
-        let less : k.word - 1 ≡ numbers_now * 4294967296 + (O - 1) = omega (arith, counted, out_moved) in
-        let up' = upper_half (k.word - 1) numbers_now (O - 1) less (omega (arith, few)) in
-        let low' = lower_half (k.word - 1) numbers_now (O - 1) less (omega (arith, few)) in
-        told_on k.word (k.word - 1) s.views (set s.views id w) k.roll.told follows.0 (omega (arith, up', low', fewer))
-        (precedes_by k.word (k.word - 1) numbers_now O numbers_now (O - 1) up low up' low' (λ h. omega arith) (omega (arith, fewer, out_moved)))
+        told_on k.word left s.views (set s.views id w) k.roll.told follows.0 (omega (arith, up_after, low_after, fewer))
+        (precedes_by k.word left numbers_now O numbers_now (O - 1) up low up_after low_after (λ h. omega arith) (omega (arith, fewer, out_moved)))
         (λ P h p q. let M : Account I B → Type 0 = λ c. All (λ (m : ℕ × ℕ). P m.0 × P m.1) c.moves in
         each_found_set P s.views id w h
         (each_word_one P one_pass (All-cons (λ (m : ℕ × ℕ). P m.0 × P m.1) (leaving k.word) (a.moves ++ b.moves) (p, q)
@@ -147,7 +167,8 @@ module _ {V I B : Type 0} (items : V → List I) (number : I → ℕ) (base : V 
         let r = k.roll in record {
           counted = omega (arith, r.counted, out_moved, undone_moved);
           fewer = (let fewer = r.fewer in omega (arith, fewer, out_moved, undone_moved));
-          drawn = (let d = r.drawn in omega (arith, d, draws_moved));
+          drawn = drawn_after;
+          gone = gone_after;
           told = told_absorbed;
           small = r.small;
           spent = λ h. r.spent (omega (arith, h, undone_moved));

@@ -1,18 +1,14 @@
 -- Accounts of passes that see more.
-use Rattle.std.proofs.Common.{◌≡◌, ℕ, ◌+◌, ◌<◌, ◌≤◌, List, [], ◌∷◌, map, length, arith, ap, sym, refl}
+use Rattle.std.proofs.Common.{◌≡◌, ℕ, ◌+◌, ◌<◌, List, [], ◌∷◌, map, length, arith, ap, sym, refl}
 use Rattle.std.specs.Prelude.{◌==◌, nat_lt, if◌then◌else◌}
 use Rattle.std.specs.List.{sum_by, All}
 use Rattle.std.proofs.lemmas.List.{append-nil}
 use Rattle.std.proofs.lemmas.List.Sums.{sum_by-cons}
 use Rattle.std.proofs.lemmas.List.Elements.{All-map, All-weaker}
 use Rattle.lg_turn.specs.declared.view.Account.{Account}
-use Rattle.lg_turn.specs.Views.{seen_in, drawn_in, draws_in}
+use Rattle.lg_turn.specs.Views.{seen_in}
 use Rattle.lg_turn.specs.Rule.{Fits}
 use Rattle.lg_turn.specs.Steps.{after_take, moved}
-use Rattle.lg_turn.proofs.Counts.{one_low}
-
-abbrev draw : ℕ × ℕ → ℕ
-draw m = if nat_lt (drawn_in m.0) (drawn_in m.1) then 1 else 0
 
 module _ {I B : Type 0} where
   -- the numbers stay where each account keeps its own
@@ -32,28 +28,26 @@ module _ {I B : Type 0} where
       let here : one (f a) ≡ one a = ap (λ (m : ℕ). if nat_lt m n then 1 else 0) (same a) in
       omega (arith, sum_by-cons one (f a) (map f rest), sum_by-cons one a rest, lows_map f same n rest)
 
-  -- the draws stay where each account keeps its moves, and are no fewer after one more move
-  pub draws_map : (f : Account I B → Account I B) → ((a : Account I B) → (f a).moves ≡ a.moves) → (accounts : List (Account I B))
-      → sum_by (λ (a : Account I B). draws_in a.moves) (map f accounts) ≡ sum_by (λ (a : Account I B). draws_in a.moves) accounts
-  draws_map f same [] = refl
-  draws_map f same (a ∷ rest) =
-      let here : draws_in (f a).moves ≡ draws_in a.moves = ap draws_in (same a) in
-      omega (arith, here, sum_by-cons (λ (b : Account I B). draws_in b.moves) (f a) (map f rest), sum_by-cons (λ (b : Account I B). draws_in b.moves) a rest, draws_map f same rest)
+  -- a count of moves stays where each account keeps its own, and where one more move doesn't count
+  pub moves_map : (count : ℕ × ℕ → ℕ) (f : Account I B → Account I B) → ((a : Account I B) → sum_by count (f a).moves ≡ sum_by count a.moves) → (accounts : List (Account I B))
+      → sum_by (λ (a : Account I B). sum_by count a.moves) (map f accounts) ≡ sum_by (λ (a : Account I B). sum_by count a.moves) accounts
+  moves_map count f same [] = refl
+  moves_map count f same (a ∷ rest) =
+      let moves : Account I B → ℕ = λ b. sum_by count b.moves in
+      omega (arith, same a, sum_by-cons moves (f a) (map f rest), sum_by-cons moves a rest, moves_map count f same rest)
 
-  pub draws-le-moved : (move : ℕ × ℕ) (accounts : List (Account I B)) → sum_by (λ (a : Account I B). draws_in a.moves) accounts ≤ sum_by (λ (a : Account I B). draws_in a.moves) (map (moved move) accounts)
-  draws-le-moved move [] = omega arith
-  draws-le-moved move (a ∷ rest) =
-      let here = sum_by-cons draw move a.moves in
-      omega (arith, here, sum_by-cons (λ (b : Account I B). draws_in b.moves) (moved move a) (map (moved move) rest), sum_by-cons (λ (b : Account I B). draws_in b.moves) a rest, draws-le-moved move rest)
+  pub moves_moved : (count : ℕ × ℕ → ℕ) (move : ℕ × ℕ) → count move ≡ 0 → (accounts : List (Account I B))
+      → sum_by (λ (a : Account I B). sum_by count a.moves) (map (moved move) accounts) ≡ sum_by (λ (a : Account I B). sum_by count a.moves) accounts
+  moves_moved count move none = moves_map count (moved move) (λ a. omega (arith, none, sum_by-cons count move a.moves))
 
-  -- a number more is drawn
-  pub draws-lt-moved : (move : ℕ × ℕ) (accounts : List (Account I B)) → 0 < length accounts → drawn_in move.0 < drawn_in move.1
-      → sum_by (λ (a : Account I B). draws_in a.moves) accounts + 1 ≤ sum_by (λ (a : Account I B). draws_in a.moves) (map (moved move) accounts)
-  draws-lt-moved move [] some h = absurd (omega arith)
-  draws-lt-moved move (a ∷ rest) some h =
-      let here = sum_by-cons draw move a.moves in
-      let one : draw move ≡ 1 = one_low (drawn_in move.0) (drawn_in move.1) h in
-      omega (arith, here, one, sum_by-cons (λ (b : Account I B). draws_in b.moves) (moved move a) (map (moved move) rest), sum_by-cons (λ (b : Account I B). draws_in b.moves) a rest, draws-le-moved move rest)
+  -- one move more of one pass
+  pub one_moved : (count : ℕ × ℕ → ℕ) (move : ℕ × ℕ) (accounts : List (Account I B)) → length accounts ≡ 1
+      → sum_by (λ (a : Account I B). sum_by count a.moves) (map (moved move) accounts) ≡ sum_by (λ (a : Account I B). sum_by count a.moves) accounts + count move
+  one_moved count move [] h = absurd (omega arith)
+  one_moved count move (a ∷ []) h =
+      let moves : Account I B → ℕ = λ c. sum_by count c.moves in
+      omega (arith, sum_by-cons moves (moved move a) [], sum_by-cons moves a [], sum_by-cons count move a.moves)
+  one_moved count move (a ∷ b ∷ rest) h = absurd (omega arith)
 
   pub seen_in-after_take : (list : List I) (accounts : List (Account I B)) → 0 < length accounts → seen_in (map (after_take list) accounts) ≡ list
   seen_in-after_take list [] h = absurd (omega arith)

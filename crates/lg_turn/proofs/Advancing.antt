@@ -121,7 +121,7 @@ module _ {V I B : Type 0} (items : V → List I) (number : I → ℕ) (base : V 
         each_pass = each_set (λ j u. Knows items number base origin (k.list ++ new) (k.serving + 1) u) s.views id after i_know others_know;
         few = k.few;
         roll = roll_longer items number base callers k.list k.made k.next k.word (set s.views id after) new
-            (roll_stays items number base callers k.list k.made k.next k.word s.views id before after at refl (λ m. refl) refl refl refl (λ P h. each_word_one P (after_give (k.list ++ new) mine) (All-head (λ (a : Account I B). All (λ (m : ℕ × ℕ). P m.0 × P m.1) a.moves) mine [] h)) (λ m. refl) refl k.roll)
+            (roll_stays items number base callers k.list k.made k.next k.word s.views id before after at refl (λ m. refl) refl refl refl (λ P h. each_word_one P (after_give (k.list ++ new) mine) (All-head (λ (a : Account I B). All (λ (m : ℕ × ℕ). P m.0 × P m.1) a.moves) mine [] h)) (λ m. refl) (λ count. refl) k.roll)
             new_made;
         drawn = (let moved : sum_by tickets_of (set s.views id after) + 1 ≡ sum_by tickets_of s.views + 0 = sum_by_set tickets_of s.views id before after at in let d = k.drawn in omega arith);
         apart = apart_advanced;

@@ -11,8 +11,8 @@ use Rattle.atomic_table.proofs.Lists.{at_set, at_snoc}
 use Rattle.lg_turn.specs.declared.view.Account.{Account}
 use Rattle.lg_turn.specs.declared.view.View.{View}
 use Rattle.lg_turn.specs.declared.view.Stage.TheVariants.{Idle}
-use Rattle.lg_turn.specs.Views.{view_of, draws_in}
-use Rattle.lg_turn.specs.Rule.{passes_of, with_number, out_of, undone_of, low_of, made_of, draws_of, values_of, tickets_of, with_ticket, EachFound, Slot, Fits, Knows, IsKept}
+use Rattle.lg_turn.specs.Views.{view_of}
+use Rattle.lg_turn.specs.Rule.{passes_of, with_number, out_of, undone_of, low_of, made_of, moves_of, values_of, tickets_of, with_ticket, EachFound, Slot, Fits, Knows, IsKept}
 use Rattle.lg_turn.specs.Steps.{cut_off, left_over, put_together, spent}
 use Rattle.lg_turn.proofs.Sums.{sum_by_set, each_set}
 use Rattle.lg_turn.proofs.Told.{each_found_set, each_found_push, each_word_one}
@@ -25,10 +25,10 @@ module _ {V I B : Type 0} (items : V → List I) (number : I → ℕ) (base : V 
   -- the rule holds of other views, where each knows what is true, as much is out, and no more passes are there
   pub with_views : (s : State (Option V) (View I B)) (k : Rule s) (views : List (View I B)) → ((i : ℕ) (v : View I B) → get_elem? views i ≡ some v → Knows items number base origin k.list k.serving v)
       → sum_by (passes_of callers) views ≤ sum_by (passes_of callers) s.views → ((n : ℕ) → sum_by (with_number n) views ≤ sum_by (with_number n) s.views)
-      → sum_by out_of views ≡ sum_by out_of s.views → sum_by undone_of views ≡ sum_by undone_of s.views → sum_by (low_of callers) views ≤ sum_by (low_of callers) s.views → ((P : ℕ → Type 0) → EachFound P s.views → EachFound P views) → ((n : ℕ) → sum_by (made_of callers n) views ≤ sum_by (made_of callers n) s.views) → sum_by draws_of s.views ≤ sum_by draws_of views
+      → sum_by out_of views ≡ sum_by out_of s.views → sum_by undone_of views ≡ sum_by undone_of s.views → sum_by (low_of callers) views ≤ sum_by (low_of callers) s.views → ((P : ℕ → Type 0) → EachFound P s.views → EachFound P views) → ((n : ℕ) → sum_by (made_of callers n) views ≤ sum_by (made_of callers n) s.views) → ((count : ℕ × ℕ → ℕ) → sum_by (moves_of count) views ≡ sum_by (moves_of count) s.views)
       → sum_by values_of views ≡ sum_by values_of s.views → sum_by tickets_of views ≡ sum_by tickets_of s.views → ((t : ℕ) → sum_by (with_ticket t) views ≡ sum_by (with_ticket t) s.views)
       → Rule record { words = s.words; homes = s.homes; views = views }
-  with_views s k views known passes_less numbers_less out_same undone_same low_less found_same made_less draws_more values_same tickets_same apart_same = record {
+  with_views s k views known passes_less numbers_less out_same undone_same low_less found_same made_less moves_same values_same tickets_same apart_same = record {
     list = k.list;
     serving = k.serving;
     ticket = k.ticket;
@@ -39,7 +39,7 @@ module _ {V I B : Type 0} (items : V → List I) (number : I → ℕ) (base : V 
     slot = subst (Slot items number base origin k.list s.homes) (sym values_same) k.slot;
     each_pass = known;
     few = k.few;
-    roll = roll_on items number base callers k.list k.made k.next k.word s.views views k.roll passes_less numbers_less out_same undone_same low_less found_same made_less draws_more;
+    roll = roll_on items number base callers k.list k.made k.next k.word s.views views k.roll passes_less numbers_less out_same undone_same low_less found_same made_less moves_same;
     drawn = ap (λ (n : ℕ). k.serving + n) tickets_same ∙ k.drawn;
     apart = λ t. let e = apart_same t in let once = k.apart t in (omega (arith, e, once.0), (λ h. e ∙ once.1 h), λ h. e ∙ once.2 h);
   }
@@ -66,7 +66,7 @@ module _ {V I B : Type 0} (items : V → List I) (number : I → ℕ) (base : V 
       (λ Q h. let M : Account I B → Type 0 = λ b. All (λ (m : ℕ × ℕ). Q m.0 × Q m.1) b.moves in
       each_found_push Q (set s.views id l) r (each_found_set Q s.views id l h (All-tail M a rest (h id v at))) (each_word_one Q a (All-head M a rest (h id v at))))
       (λ n. let one : Account I B → ℕ = λ b. if b.number == n then 1 else 0 in omega (arith, same (made_of callers n) (omega (arith, sum_by-cons one a rest, sum_by-cons one a []))))
-      (let draws : Account I B → ℕ = λ b. draws_in b.moves in omega (arith, same draws_of (omega (arith, sum_by-cons draws a rest, sum_by-cons draws a []))))
+      (λ count. let moves : Account I B → ℕ = λ b. sum_by count b.moves in same (moves_of count) (omega (arith, sum_by-cons moves a rest, sum_by-cons moves a [])))
       (same values_of refl)
       (same tickets_of refl)
       (λ t. same (with_ticket t) refl)
@@ -92,7 +92,7 @@ module _ {V I B : Type 0} (items : V → List I) (number : I → ℕ) (base : V 
       (λ Q h. let M : Account I B → Type 0 = λ a. All (λ (m : ℕ × ℕ). Q m.0 × Q m.1) a.moves in
       each_found_set Q (set s.views id b) other spent (each_found_set Q s.views id b h (All-append M others accounts (h other w theirs) (h id v at))) (All-nil M))
       (λ n. let one : Account I B → ℕ = λ a. if a.number == n then 1 else 0 in omega (arith, same (made_of callers n) (omega (arith, sum_by-append one others accounts))))
-      (let draws : Account I B → ℕ = λ a. draws_in a.moves in omega (arith, same draws_of (omega (arith, sum_by-append draws others accounts))))
+      (λ count. let moves : Account I B → ℕ = λ a. sum_by count a.moves in same (moves_of count) (omega (arith, sum_by-append moves others accounts)))
       (same values_of refl)
       (same tickets_of refl)
       (λ t. same (with_ticket t) refl)

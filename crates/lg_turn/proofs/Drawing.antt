@@ -54,7 +54,7 @@ module _ {V I B : Type 0} (items : V → List I) (number : I → ℕ) (base : V 
           slot = rw (sum_stays s.views id v w at values_of refl) k.slot;
           each_pass = each_set (λ j u. Knows items number base origin k.list k.serving u) s.views id w record { fits = (k.each_pass id v at).fits; stands = some_pass } (λ j u _ e. k.each_pass j u e);
           few = k.few;
-          roll = roll_stays items number base callers k.list k.made k.next k.word s.views id v w at refl (λ n. refl) refl refl refl (λ P h. h) (λ n. refl) refl k.roll;
+          roll = roll_stays items number base callers k.list k.made k.next k.word s.views id v w at refl (λ n. refl) refl refl refl (λ P h. h) (λ n. refl) (λ count. refl) k.roll;
           drawn = (let moved : sum_by tickets_of (set s.views id w) + 0 ≡ sum_by tickets_of s.views + 1 = sum_by_set tickets_of s.views id v w at in omega arith);
           apart = λ t. apart_drawn s.views id k.serving k.ticket t accounts at (omega arith) (k.apart t);
         },

@@ -15,13 +15,13 @@ use Rattle.lg_turn.specs.declared.view.Account.{Account}
 use Rattle.lg_turn.specs.declared.view.View.{View}
 use Rattle.lg_turn.specs.declared.view.Stage.{Stage}
 use Rattle.lg_turn.specs.declared.view.Stage.TheVariants.{Idle, Waits, Holds, Enrols, Undoes, Alone}
-use Rattle.lg_turn.specs.Views.{drawing, looking, view_of, number_in, seen_in, drawn_in, out_in, of_pass, Precedes, MayFollow}
-use Rattle.lg_turn.specs.Rule.{passes_of, with_number, low_of, out_of, undone_of, values_of, tickets_of, with_ticket, ticket_count, same_ticket, value_count, place_count, out_count, undone_count, same_number, low_count, coming_count, made_of, draws_of, times, Fits, Knows, Told, Roll, IsKept}
+use Rattle.lg_turn.specs.Views.{drawing, looking, rise_count, gone_in, view_of, number_in, seen_in, drawn_in, out_in, of_pass, Precedes, MayFollow}
+use Rattle.lg_turn.specs.Rule.{passes_of, with_number, low_of, out_of, undone_of, values_of, tickets_of, with_ticket, ticket_count, same_ticket, value_count, place_count, out_count, undone_count, same_number, low_count, coming_count, made_of, moves_of, times, Fits, Knows, Told, Roll, IsKept}
 use Rattle.lg_turn.specs.Steps.{moved, Enrolls, Counts}
 use Rattle.lg_turn.proofs.Sums.{sum_by_set, each_set, part-le-sum_by}
-use Rattle.lg_turn.proofs.Counts.{one_if_same, none_if_other, one_low, none_low}
+use Rattle.lg_turn.proofs.Counts.{one_if_same, none_if_other, one_low, none_low, no_rise, no_rise_here, one_rise}
 use Rattle.lg_turn.proofs.Parts.{sum_stays, entered_below, lows-le-passes}
-use Rattle.lg_turn.proofs.Accounts.{numbers_map, lows_map, draws-le-moved, draws-lt-moved}
+use Rattle.lg_turn.proofs.Accounts.{numbers_map, lows_map, moves_moved, one_moved}
 use Rattle.lg_turn.proofs.Entries.{of_pass-undrawn, of_pass-none_before}
 use Rattle.lg_turn.proofs.Told.{told_on, precedes_by, each_found_set, each_word_moved, each_word_weaker}
 use Rattle.lg_turn.proofs.Rolls.{upper_half, lower_half, outs_few, undone_few, places-le-out}
@@ -61,7 +61,7 @@ coming-le-place callers n Undoes = omega arith
 coming-le-place callers n Alone = omega arith
 
 module _ {V I B : Type 0} (items : V → List I) (number : I → ℕ) (base : V → B) where
-  fits_moved : (origin : B) (list : List I) (move : ℕ × ℕ) (accounts : List (Account I B)) → All (Fits items number base origin list) accounts → All (Fits items number base origin list) (map (moved move) accounts)
+  pub fits_moved : (origin : B) (list : List I) (move : ℕ × ℕ) (accounts : List (Account I B)) → All (Fits items number base origin list) accounts → All (Fits items number base origin list) (map (moved move) accounts)
   fits_moved origin list move accounts fits = All-map (Fits items number base origin list) (moved move) accounts
       (All-weaker (Fits items number base origin list) (λ (a : Account I B). Fits items number base origin list (moved move a))
       (λ a f. record { base_is = f.base_is; begins = f.begins; own_is = f.own_is; own_seen = f.own_seen }) accounts fits)
@@ -146,11 +146,51 @@ module _ {V I B : Type 0} (items : V → List I) (number : I → ℕ) (base : V 
       given_moved : (stage : Stage) (n : ℕ) → sum_by (made_of callers n) (set s.views id (at_stage stage)) ≡ sum_by (made_of callers n) s.views + coming_count callers n stage
       given_moved stage n = let m = sum_by_set (made_of callers n) s.views id v (at_stage stage) at in omega (arith, m, numbers_map (moved move) (λ a. refl) n accounts)
 
-      draws_moved : (stage : Stage) → sum_by draws_of s.views ≤ sum_by draws_of (set s.views id (at_stage stage))
-      draws_moved stage = let m = sum_by_set draws_of s.views id v (at_stage stage) at in omega (arith, m, draws-le-moved move accounts)
+      -- a tally is told as before where it stays
+      same_after : (tally : ℕ → ℕ) (later : ℕ) → ((P : ℕ → Type 0) → P found → P later → P move.0 × P move.1) → tally later ≡ tally found → (stage : Stage) (n : ℕ)
+          → sum_by (moves_of (rise_count tally n)) s.views ≡ cond (nat_lt n (tally k.word)) 1 0 → sum_by (moves_of (rise_count tally n)) (set s.views id (at_stage stage)) ≡ cond (nat_lt n (tally later)) 1 0
+      same_after tally later both same stage n before =
+          let rise : ℕ × ℕ → ℕ = rise_count tally n in
+          let m = sum_by_set (moves_of rise) s.views id v (at_stage stage) at in
+          let as_found = both (λ word. tally word ≡ tally found) refl same in
+          let none = no_rise tally n move (omega (arith, as_found)) in
+          let stays : sum_by (moves_of rise) (set s.views id (at_stage stage)) ≡ sum_by (moves_of rise) s.views = omega (arith, m, moves_moved rise move none accounts) in
+          stays ∙ before ∙ ap (λ (word : ℕ). cond (nat_lt n (tally word)) 1 0) (sym found_is) ∙ ap (λ (t : ℕ). cond (nat_lt n t) 1 0) (sym same)
 
-      draws_drawn : drawn_in move.0 < drawn_in move.1 → (stage : Stage) → sum_by draws_of s.views + 1 ≤ sum_by draws_of (set s.views id (at_stage stage))
-      draws_drawn later stage = let m = sum_by_set draws_of s.views id v (at_stage stage) at in omega (arith, m, draws-lt-moved move accounts some_pass later)
+      one_drawn : drawn_in (found + 4294967297) ≡ drawn_in found + 1
+      one_drawn =
+          let few = outs_few items number base callers origin s k in
+          let counted = k.roll.counted in
+          let up = upper_half (found + 4294967297) (k.next + U + 1) (O + 1) (omega (arith, found_is, counted)) (omega (arith, few)) in
+          omega (arith, drawn_is, up)
+
+      -- past all numbers a drawing is not told of as one
+      drawn_undone : ((P : ℕ → Type 0) → P found → P (found + 4294967297) → P move.0 × P move.1) → 4294967168 ≤ drawn_in found → (n : ℕ) → n < 4294967168 → sum_by (moves_of (rise_count drawn_in n)) (set s.views id (at_stage Undoes)) ≡ cond (nat_lt n (drawn_in (found + 4294967297))) 1 0
+      drawn_undone both h n small =
+          let rise : ℕ × ℕ → ℕ = rise_count drawn_in n in
+          let m = sum_by_set (moves_of rise) s.views id v (at_stage Undoes) at in
+          let high = both (λ word. n < drawn_in word) (omega (arith, h, small)) (omega (arith, h, small, one_drawn)) in
+          let none = no_rise_here drawn_in n move (λ same. let above = high.0 in omega (arith, same, above)) in
+          let stays : sum_by (moves_of rise) (set s.views id (at_stage Undoes)) ≡ sum_by (moves_of rise) s.views = omega (arith, m, moves_moved rise move none accounts) in
+          let before = k.roll.drawn n small in
+          omega (arith, stays, before, one_low n (drawn_in k.word) (omega (arith, h, small, found_is)), one_low n (drawn_in (found + 4294967297)) (omega (arith, h, small, one_drawn)))
+
+      drawn_enrolled : length accounts ≡ 1 → move ≡ drawing found → (n : ℕ) → n < 4294967168 → sum_by (moves_of (rise_count drawn_in n)) (set s.views id (at_stage (Enrols (drawn_in found) (out_in found)))) ≡ cond (nat_lt n (drawn_in (found + 4294967297))) 1 0
+      drawn_enrolled one_pass is n small =
+          let rise : ℕ × ℕ → ℕ = rise_count drawn_in n in
+          let m = sum_by_set (moves_of rise) s.views id v (at_stage (Enrols (drawn_in found) (out_in found))) at in
+          let more = one_rise drawn_in n (drawing found) one_drawn in
+          let same : rise move ≡ rise (drawing found) = ap rise is in
+          let before : sum_by (moves_of rise) s.views ≡ cond (nat_lt n (drawn_in found)) 1 0 = k.roll.drawn n small ∙ ap (λ (word : ℕ). cond (nat_lt n (drawn_in word)) 1 0) (sym found_is) in
+          omega (arith, m, more, same, before, one_moved rise move accounts one_pass)
+
+      none_gone : gone_in (found + 4294967297) ≡ gone_in found
+      none_gone =
+          let few = outs_few items number base callers origin s k in
+          let counted = k.roll.counted in
+          let up = upper_half (found + 4294967297) (k.next + U + 1) (O + 1) (omega (arith, found_is, counted)) (omega (arith, few)) in
+          let low = lower_half (found + 4294967297) (k.next + U + 1) (O + 1) (omega (arith, found_is, counted)) (omega (arith, few)) in
+          omega (arith, drawn_is, out_is, up, low)
 
       fits : All (Fits items number base origin k.list) (map (moved move) accounts)
       fits = fits_moved origin k.list move accounts (k.each_pass id v at).fits
@@ -190,7 +230,8 @@ module _ {V I B : Type 0} (items : V → List I) (number : I → ℕ) (base : V 
           let all_drawn : k.next ≡ 4294967168 = dite (dec_le U 0) (λ z. omega (arith, z, h, drawn_is, small)) (λ z. r.spent (omega (arith, z))) in record {
             counted = omega (arith, r.counted, found_is, undone_moved Undoes, out_moved Undoes);
             fewer = (let fewer = r.fewer in omega (arith, fewer, undone_moved Undoes, out_moved Undoes));
-            drawn = (let d = r.drawn in let more = draws_moved Undoes in omega (arith, d, more));
+            drawn = drawn_undone both h;
+            gone = λ n. same_after gone_in (found + 4294967297) both none_gone Undoes n (r.gone n);
             told = told_drawn both Undoes;
             small = small;
             spent = λ _. all_drawn;
@@ -231,14 +272,15 @@ module _ {V I B : Type 0} (items : V → List I) (number : I → ℕ) (base : V 
       next_above : (n : ℕ) → times n k.made ≡ 1 → n < k.next
       next_above n one = dite (dec_lt n k.next) (λ h. h) (λ h. let none_there = (k.roll.given n).2 (omega (arith, h)) in absurd (omega (arith, one, none_there)))
 
-      roll_enrols : ((P : ℕ → Type 0) → P found → P (found + 4294967297) → P move.0 × P move.1) → drawn_in move.0 < drawn_in move.1 → drawn_in found < 4294967168 → Roll items number base callers k.list made_after (k.next + 1) (found + 4294967297) (set s.views id (at_stage new_stage))
-      roll_enrols both later h =
+      roll_enrols : ((P : ℕ → Type 0) → P found → P (found + 4294967297) → P move.0 × P move.1) → length accounts ≡ 1 → move ≡ drawing found → drawn_in found < 4294967168 → Roll items number base callers k.list made_after (k.next + 1) (found + 4294967297) (set s.views id (at_stage new_stage))
+      roll_enrols both one_pass is h =
           let r = k.roll in
           let z = none_undone h in
           let m = next_is h in record {
             counted = omega (arith, r.counted, found_is, undone_moved new_stage, out_moved new_stage);
             fewer = (let fewer = r.fewer in omega (arith, fewer, undone_moved new_stage, out_moved new_stage));
-            drawn = (let d = r.drawn in let more = draws_drawn later new_stage in omega (arith, d, more));
+            drawn = drawn_enrolled one_pass is;
+            gone = λ n. same_after gone_in (found + 4294967297) both none_gone new_stage n (r.gone n);
             told = told_drawn both new_stage;
             small = omega (arith, h, m);
             spent = λ l. absurd (omega (arith, l, z, undone_moved new_stage));
@@ -288,7 +330,8 @@ module _ {V I B : Type 0} (items : V → List I) (number : I → ℕ) (base : V 
           let most = r.passes in record {
             counted = omega (arith, r.counted, found_is, undone_moved Alone, out_moved Alone);
             fewer = (let fewer = r.fewer in omega (arith, fewer, undone_moved Alone, out_moved Alone));
-            drawn = (let d = r.drawn in let more = draws_moved Alone in omega (arith, d, more));
+            drawn = λ n small. same_after drawn_in found both refl Alone n (r.drawn n small);
+            gone = λ n. same_after gone_in found both refl Alone n (r.gone n);
             told = told_found both Alone;
             small = r.small;
             spent = λ l. r.spent (omega (arith, l, undone_moved Alone));
@@ -304,7 +347,8 @@ module _ {V I B : Type 0} (items : V → List I) (number : I → ℕ) (base : V 
           let r = k.roll in record {
             counted = omega (arith, r.counted, found_is, undone_moved Idle, out_moved Idle);
             fewer = (let fewer = r.fewer in omega (arith, fewer, undone_moved Idle, out_moved Idle));
-            drawn = (let d = r.drawn in let more = draws_moved Idle in omega (arith, d, more));
+            drawn = λ n small. same_after drawn_in found both refl Idle n (r.drawn n small);
+            gone = λ n. same_after gone_in found both refl Idle n (r.gone n);
             told = told_found both Idle;
             small = r.small;
             spent = λ l. r.spent (omega (arith, l, undone_moved Idle));
@@ -330,9 +374,9 @@ module _ {V I B : Type 0} (items : V → List I) (number : I → ℕ) (base : V 
             ((λ _. refl), (λ l. absurd (omega (arith, l, h))), follows s k id accounts at some_pass found found_is (drawing found)),
           )
 
-      enrol_draws : drawn_in found < 4294967168
+      enrol_draws : length accounts ≡ 1 → drawn_in found < 4294967168
           → (w : View I B) × (a : Act (Option V)) × Valid s.homes [] a × Rule (stepped s 2 ((found + 4294967297) % 2 ^ 64) id [] w a) × Enrolls number (step slots 2 4294967297 0 none) (view_of accounts Idle, []) found (w, carried_after [] a)
-      enrol_draws h =
+      enrol_draws one_pass h =
           let stage : Stage = Enrols (drawn_in found) (out_in found) in
           let w : View I B = view_of (map (moved (drawing found)) accounts) stage in
           let none_entered = ap (λ (n : ℕ). of_pass number n k.list) (next_is s k id accounts at some_pass found found_is (drawing found) h) ∙ of_pass-undrawn number k.next k.list (entered_below items number base callers k.list k.made k.next k.word s.views k.roll) in (
@@ -342,7 +386,7 @@ module _ {V I B : Type 0} (items : V → List I) (number : I → ℕ) (base : V 
             subst (λ (n : ℕ). Rule (stepped s 2 n id [] w keeps)) (sym (word_more s k id accounts at some_pass found found_is (drawing found)))
                 (rolled s k id accounts (map (moved (drawing found)) accounts) Idle stage at refl (λ t. refl) refl
                 record { fits = fits s k id accounts at some_pass found found_is (drawing found); stands = (omega (arith, wide s k id accounts at some_pass found found_is (drawing found), some_pass), none_entered) }
-                [] (made_after s k id accounts at some_pass found found_is (drawing found)) (k.next + 1) (found + 4294967297) (roll_enrols s k id accounts at some_pass found found_is (drawing found) (λ P p q. (p, q)) (omega arith) h)),
+                [] (made_after s k id accounts at some_pass found found_is (drawing found)) (k.next + 1) (found + 4294967297) (roll_enrols s k id accounts at some_pass found found_is (drawing found) (λ P p q. (p, q)) one_pass refl h)),
             ((λ l. absurd (omega (arith, l, h))), (λ _. (refl, below s k id accounts at some_pass found found_is (drawing found) h, none_seen (drawn_in found) k.list origin accounts some_pass (k.each_pass id (view_of accounts Idle) at).fits none_entered)), follows s k id accounts at some_pass found found_is (drawing found)),
           )
 
@@ -371,11 +415,12 @@ module _ {V I B : Type 0} (items : V → List I) (number : I → ℕ) (base : V 
             ((λ l. absurd (h l)), (λ _. (refl, omega (arith, part, out_is', some_pass, h))), follows s k id accounts at some_pass found found_is (looking found)),
           )
 
-    pub enrols : (slots id : ℕ) (accounts : List (Account I B)) → 0 < length accounts → Allows Rule slots id (view_of accounts Idle, []) 2 (λ n. (n + 4294967297) % 2 ^ 64) (Enrolls number (step slots 2 4294967297 0 none) (view_of accounts Idle, []))
-    enrols slots id accounts some_pass s k sized at small =
+    pub enrols : (slots id : ℕ) (accounts : List (Account I B)) → length accounts ≡ 1 → Allows Rule slots id (view_of accounts Idle, []) 2 (λ n. (n + 4294967297) % 2 ^ 64) (Enrolls number (step slots 2 4294967297 0 none) (view_of accounts Idle, []))
+    enrols slots id accounts one_pass s k sized at small =
         let found_is : get_or s.words 2 0 ≡ k.word = ap (λ (l : List ℕ). get_or l 2 0) k.words in
+        let some_pass : 0 < length accounts = omega (arith, one_pass) in
         dite (dec_lt (drawn_in (get_or s.words 2 0)) 4294967168)
-        (λ h. enrol_draws s k id accounts at some_pass (get_or s.words 2 0) found_is slots h)
+        (λ h. enrol_draws s k id accounts at some_pass (get_or s.words 2 0) found_is slots one_pass h)
         (λ h. enrol_undoes s k id accounts at some_pass (get_or s.words 2 0) found_is slots (omega (arith, h)))
 
     pub counts : (slots id : ℕ) (accounts : List (Account I B)) → 0 < length accounts → Allows Rule slots id (view_of accounts Idle, []) 2 (λ n. n) (Counts (step slots 2 0 0 none) (view_of accounts Idle, []))

@@ -16,8 +16,10 @@ pub mod Gathering
 pub mod Shares
 pub mod Rolls
 pub mod Enrolling
+pub mod Refusing
 pub mod Releasing
 pub mod Parting
 pub mod Lone
 pub mod Numbers
+pub mod Telling
 pub mod Absorbing

@@ -20,7 +20,7 @@ use Rattle.lg_turn.proofs.Sums.{sum_by_set, each_set, part-le-sum_by, two_parts-
 use Rattle.lg_turn.proofs.Counts.{one_if_same}
 use Rattle.lg_turn.proofs.Told.{each_word_same}
 use Rattle.lg_turn.proofs.Parts.{sum_stays, roll_stays}
-use Rattle.lg_turn.proofs.Accounts.{draws_map, numbers_map, lows_map, seen_in-after_take, fits_after_take}
+use Rattle.lg_turn.proofs.Accounts.{moves_map, numbers_map, lows_map, seen_in-after_take, fits_after_take}
 
 module _ {V I B : Type 0} (items : V → List I) (number : I → ℕ) (base : V → B) where
   -- who has a ticket stands for a pass
@@ -105,7 +105,7 @@ module _ {V I B : Type 0} (items : V → List I) (number : I → ℕ) (base : V 
                 (ap (λ (m : ℕ). m + 0) (lows_map (after_take k.list) (λ a. refl) callers accounts))
                 (λ P h. each_word_same P (after_take k.list) (λ Q a q. q) accounts h)
                 (λ n. ap (λ (m : ℕ). m + 0) (numbers_map (after_take k.list) (λ a. refl) n accounts))
-                (draws_map (after_take k.list) (λ a. refl) accounts)
+                (λ count. moves_map count (after_take k.list) (λ a. refl) accounts)
                 k.roll;
             drawn = ap (λ (n : ℕ). k.serving + n) (sum_stays s.views id before after at tickets_of refl) ∙ k.drawn;
             apart = λ t. let e = sum_stays s.views id before after at (with_ticket t) refl in let a = k.apart t in (omega (arith, e, a.0), (λ h. e ∙ a.1 h), λ h. e ∙ a.2 h);

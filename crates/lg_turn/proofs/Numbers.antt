@@ -21,7 +21,7 @@ module _ {V I B : Type 0} (items : V → List I) (number : I → ℕ) (base : V 
   found_is : (k : IsKept items number base callers origin s) → get_or s.words 2 0 ≡ (k.next + sum_by undone_of s.views) * 4294967296 + sum_by out_of s.views
   found_is k = ap (λ (l : List ℕ). get_or l 2 0) k.words ∙ k.roll.counted
 
-  drawn_is : (k : IsKept items number base callers origin s) → drawn_in (get_or s.words 2 0) ≡ k.next + sum_by undone_of s.views
+  pub drawn_is : (k : IsKept items number base callers origin s) → drawn_in (get_or s.words 2 0) ≡ k.next + sum_by undone_of s.views
   drawn_is k = upper_half (get_or s.words 2 0) (k.next + sum_by undone_of s.views) (sum_by out_of s.views) (found_is k) (omega (arith, outs_few items number base callers origin s k))
 
   pub roll_counts : IsKept items number base callers origin s → out_in (get_or s.words 2 0) ≡ sum_by out_of s.views

@@ -1,5 +1,5 @@
 -- The rule holds of a new table: the value is at home, and the first seat answers for all passes.
-use Rattle.std.proofs.Common.{◌≡◌, ℕ, zero, suc, ◌+◌, ◌*◌, ◌<◌, ◌≤◌, List, [], ◌∷◌, map, arith, sym, refl, subst, ◌⊎◌, inl, inr, Some}
+use Rattle.std.proofs.Common.{◌≡◌, ℕ, zero, suc, ◌+◌, ◌*◌, ◌<◌, ◌≤◌, List, [], ◌∷◌, map, cond, arith, ap, sym, refl, subst, ◌⊎◌, inl, inr, Some}
 use mathlib.Core.Option.{some, some-ne-none, some-injective}
 use mathlib.Core.Logic.{dite}
 use native.Mathlib.Decide.{ℕ_discrete, dec_le}
@@ -12,10 +12,10 @@ use Rattle.std.proofs.lemmas.List.Elements.{All-nil, All-cons, All-map, All-weak
 use Rattle.atomic_table.specs.Table.{opening}
 use Rattle.lg_turn.specs.declared.view.Account.{Account}
 use Rattle.lg_turn.specs.declared.view.View.{View}
-use Rattle.lg_turn.specs.Views.{blank, drawing, draws_in, drawn_in, out_in, Precedes, EachWord}
+use Rattle.lg_turn.specs.Views.{blank, drawing, rise_count, drawn_in, out_in, gone_in, Precedes, EachWord}
 use Rattle.lg_turn.specs.Rule.{times, Told, Fits, Knows, IsKept}
 use Rattle.lg_turn.specs.Steps.{beginning}
-use Rattle.lg_turn.proofs.Counts.{one_if_same, none_if_other, one_low}
+use Rattle.lg_turn.proofs.Counts.{one_if_same, none_if_other, none_low, no_rise, one_rise}
 use Rattle.lg_turn.proofs.Told.{told_at_first, precedes_by}
 use Rattle.lg_turn.proofs.Rolls.{upper_half, lower_half}
 
@@ -67,15 +67,30 @@ module _ (I : Type 0) {B : Type 0} (over : B) where
       dite (dec_le n m) (λ h. inl (in_order n m h (omega arith))) (λ h. inr (in_order m n (omega arith) (omega arith))))))
 
   -- each pass of the start has drawn one number
-  draws_started : (low count : ℕ) → low + count ≤ 65 → count ≤ sum_by (λ (a : Account I B). draws_in a.moves) (map (blank over) (range_with_len low count))
-  draws_started low zero few = omega arith
-  draws_started low (suc count) few =
-      let draw : ℕ × ℕ → ℕ = λ m. if nat_lt (drawn_in m.0) (drawn_in m.1) then 1 else 0 in
-      let draws : Account I B → ℕ = λ a. draws_in a.moves in
-      let rest = draws_started (low + 1) count (omega arith) in
-      let this = sum_by-cons draw (drawing (low * 4294967297)) [] in
-      let one : draw (drawing (low * 4294967297)) ≡ 1 = one_low (drawn_in (low * 4294967297)) (drawn_in (low * 4294967297 + 4294967297)) (omega arith) in
-      omega (arith, rest, this, one, sum_by-cons draws (blank over low) (map (blank over) (range_with_len (low + 1) count)))
+  draws_started : (n low count : ℕ) → low + count ≤ 65 → cond (nat_lt n low) 1 0 + sum_by (λ (a : Account I B). sum_by (rise_count drawn_in n) a.moves) (map (blank over) (range_with_len low count)) ≡ cond (nat_lt n (low + count)) 1 0
+  draws_started n low zero few =
+      let same : ◌≡◌ {A = ℕ} (cond (nat_lt n (low + 0)) 1 0) (cond (nat_lt n low) 1 0) = ap (λ (m : ℕ). cond (nat_lt n m) 1 0) (omega arith) in
+      omega (arith, same)
+  draws_started n low (suc count) few =
+      let rise : ℕ × ℕ → ℕ = rise_count drawn_in n in
+      let draws : Account I B → ℕ = λ a. sum_by rise a.moves in
+      let rest = draws_started n (low + 1) count (omega arith) in
+      let before = (halves low (omega arith)).0 in
+      let after : drawn_in (low * 4294967297 + 4294967297) ≡ low + 1 = omega arith in
+      let one : cond (nat_lt n (low + 1)) 1 0 ≡ cond (nat_lt n low) 1 0 + rise (drawing (low * 4294967297)) =
+      subst (λ (z : ℕ × ℕ). cond (nat_lt n z.1) 1 0 ≡ cond (nat_lt n z.0) 1 0 + rise (drawing (low * 4294967297))) (λ i. (before i, after i)) (one_rise drawn_in n (drawing (low * 4294967297)) (omega arith)) in
+      let same : ◌≡◌ {A = ℕ} (cond (nat_lt n (low + suc count)) 1 0) (cond (nat_lt n (low + 1 + count)) 1 0) = ap (λ (m : ℕ). cond (nat_lt n m) 1 0) (omega arith) in
+      omega (arith, rest, one, same, sum_by-cons rise (drawing (low * 4294967297)) [], sum_by-cons draws (blank over low) (map (blank over) (range_with_len (low + 1) count)))
+
+  -- and none has gone
+  goings_started : (n low count : ℕ) → low + count ≤ 65 → sum_by (λ (a : Account I B). sum_by (rise_count gone_in n) a.moves) (map (blank over) (range_with_len low count)) ≡ 0
+  goings_started n low zero few = refl
+  goings_started n low (suc count) few =
+      let rise : ℕ × ℕ → ℕ = rise_count gone_in n in
+      let goings : Account I B → ℕ = λ a. sum_by rise a.moves in
+      let rest = goings_started n (low + 1) count (omega arith) in
+      let none = no_rise gone_in n (drawing (low * 4294967297)) (omega arith) in
+      omega (arith, rest, none, sum_by-cons rise (drawing (low * 4294967297)) [], sum_by-cons goings (blank over low) (map (blank over) (range_with_len (low + 1) count)))
 
 module _ {V I B : Type 0} (items : V → List I) (number : I → ℕ) (base : V → B) (callers passes : ℕ) (value : V) where
   begins_known : (i : ℕ) (v : View I B) → get_elem? (beginning passes (base value) ∷ []) i ≡ some v → Knows items number base (base value) [] 0 v
@@ -100,7 +115,11 @@ module _ {V I B : Type 0} (items : V → List I) (number : I → ℕ) (base : V 
     roll = record {
       counted = omega (arith, wide);
       fewer = omega (arith, wide);
-      drawn = (let d = draws_started I (base value) 0 passes (omega arith) in omega (arith, d));
+      drawn = λ n small. let d = draws_started I (base value) n 0 passes (omega arith) in
+          let none : ◌≡◌ {A = ℕ} (cond (nat_lt n 0) 1 0) 0 = none_low n 0 (omega arith) in
+          let all_drawn : ◌≡◌ {A = ℕ} (cond (nat_lt n (drawn_in word)) 1 0) (cond (nat_lt n (0 + passes)) 1 0) = ap (λ (m : ℕ). cond (nat_lt n m) 1 0) (omega (arith, is)) in
+          omega (arith, d, none, all_drawn);
+      gone = λ n. let g = goings_started I (base value) n 0 passes (omega arith) in let none : ◌≡◌ {A = ℕ} (cond (nat_lt n (gone_in word)) 1 0) 0 = none_low n (gone_in word) (omega (arith, is)) in omega (arith, g, none);
       told = told_started I (base value) passes word is (omega arith);
       small = omega arith;
       spent = λ h. absurd (omega arith);

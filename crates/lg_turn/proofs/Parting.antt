@@ -9,8 +9,8 @@ use Rattle.atomic_table.proofs.Lists.{at_snoc}
 use Rattle.lg_turn.specs.declared.view.Account.{Account}
 use Rattle.lg_turn.specs.declared.view.View.{View}
 use Rattle.lg_turn.specs.declared.view.Stage.TheVariants.{Idle, Enrols}
-use Rattle.lg_turn.specs.Views.{account_of, view_of, draws_in}
-use Rattle.lg_turn.specs.Rule.{passes_of, with_number, out_of, undone_of, low_of, made_of, draws_of, values_of, tickets_of, with_ticket, Fits, Knows, IsKept}
+use Rattle.lg_turn.specs.Views.{account_of, view_of}
+use Rattle.lg_turn.specs.Rule.{passes_of, with_number, out_of, undone_of, low_of, made_of, moves_of, values_of, tickets_of, with_ticket, Fits, Knows, IsKept}
 use Rattle.lg_turn.specs.Steps.{kept, enrolled}
 use Rattle.lg_turn.proofs.Sums.{sum_by_set, each_set}
 use Rattle.lg_turn.proofs.Counts.{one_low}
@@ -55,7 +55,7 @@ module _ {V I B : Type 0} (items : V → List I) (number : I → ℕ) (base : V 
       each_found_push Q (set s.views id l) r (each_found_set Q s.views id l h (h id v at)) (each_word_one Q new (All-nil (λ (m : ℕ × ℕ). Q m.0 × Q m.1))))
       (λ m. let one : Account I B → ℕ = λ b. if b.number == m then 1 else 0 in
       omega (arith, same (made_of callers m) (omega (arith, sum_by-cons one new [], given_room (n == m) (nat_lt out callers) place))))
-      (omega (arith, same draws_of (omega (arith, sum_by-cons (λ (b : Account I B). draws_in b.moves) new []))))
+      (λ count. same (moves_of count) (omega (arith, sum_by-cons (λ (b : Account I B). sum_by count b.moves) new [])))
       (same values_of refl)
       (same tickets_of refl)
       (λ t. same (with_ticket t) refl)

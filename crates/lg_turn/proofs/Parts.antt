@@ -12,8 +12,8 @@ use Rattle.lg_turn.specs.declared.view.Account.{Account}
 use Rattle.lg_turn.specs.declared.view.View.{View}
 use Rattle.lg_turn.specs.declared.view.Stage.{Stage}
 use Rattle.lg_turn.specs.declared.view.Stage.TheVariants.{Idle, Waits, Holds, Enrols, Undoes, Alone}
-use Rattle.lg_turn.specs.Rule.{passes_of, with_number, out_of, undone_of, low_of, low_count, place_count, made_of, draws_of, times, EachFound, Roll}
-use Rattle.lg_turn.specs.Views.{EachWord}
+use Rattle.lg_turn.specs.Rule.{passes_of, with_number, out_of, undone_of, low_of, low_count, place_count, made_of, moves_of, times, EachFound, Roll}
+use Rattle.lg_turn.specs.Views.{EachWord, drawn_in, gone_in, rise_count}
 use Rattle.lg_turn.proofs.Told.{told_same, each_found_set}
 use Rattle.lg_turn.proofs.Sums.{sum_by_set, sum_by-le-sum_by}
 
@@ -27,11 +27,12 @@ module _ {V I B : Type 0} (items : V → List I) (number : I → ℕ) (base : V 
   pub roll_on : (views views' : List (View I B)) → Roll items number base callers list made next word views
       → sum_by (passes_of callers) views' ≤ sum_by (passes_of callers) views → ((n : ℕ) → sum_by (with_number n) views' ≤ sum_by (with_number n) views)
       → sum_by out_of views' ≡ sum_by out_of views → sum_by undone_of views' ≡ sum_by undone_of views
-      → sum_by (low_of callers) views' ≤ sum_by (low_of callers) views → ((P : ℕ → Type 0) → EachFound P views → EachFound P views') → ((n : ℕ) → sum_by (made_of callers n) views' ≤ sum_by (made_of callers n) views) → sum_by draws_of views ≤ sum_by draws_of views' → Roll items number base callers list made next word views'
-  roll_on views views' r passes_less numbers_less out_same undone_same low_less found_same made_less draws_more = record {
+      → sum_by (low_of callers) views' ≤ sum_by (low_of callers) views → ((P : ℕ → Type 0) → EachFound P views → EachFound P views') → ((n : ℕ) → sum_by (made_of callers n) views' ≤ sum_by (made_of callers n) views) → ((count : ℕ × ℕ → ℕ) → sum_by (moves_of count) views' ≡ sum_by (moves_of count) views) → Roll items number base callers list made next word views'
+  roll_on views views' r passes_less numbers_less out_same undone_same low_less found_same made_less moves_same = record {
     counted = r.counted ∙ (λ i. (next + sym undone_same i) * 4294967296 + sym out_same i);
     fewer = (let fewer = r.fewer in omega (arith, fewer, out_same, undone_same));
-    drawn = (let d = r.drawn in omega (arith, d, draws_more));
+    drawn = λ n low. moves_same (rise_count drawn_in n) ∙ r.drawn n low;
+    gone = λ n. moves_same (rise_count gone_in n) ∙ r.gone n;
     told = told_same word views views' r.told found_same;
     small = r.small;
     spent = λ h. r.spent (omega (arith, undone_same));
@@ -44,7 +45,7 @@ module _ {V I B : Type 0} (items : V → List I) (number : I → ℕ) (base : V 
 
   -- and where one view changes that answers for the same passes
   pub roll_stays : (views : List (View I B)) (id : ℕ) (v w : View I B) → get_elem? views id ≡ some v → passes_of callers w ≡ passes_of callers v → ((n : ℕ) → with_number n w ≡ with_number n v)
-      → out_of w ≡ out_of v → undone_of w ≡ undone_of v → low_of callers w ≡ low_of callers v → ((P : ℕ → Type 0) → EachWord P v.accounts → EachWord P w.accounts) → ((n : ℕ) → made_of callers n w ≡ made_of callers n v) → draws_of w ≡ draws_of v
+      → out_of w ≡ out_of v → undone_of w ≡ undone_of v → low_of callers w ≡ low_of callers v → ((P : ℕ → Type 0) → EachWord P v.accounts → EachWord P w.accounts) → ((n : ℕ) → made_of callers n w ≡ made_of callers n v) → ((count : ℕ × ℕ → ℕ) → moves_of count w ≡ moves_of count v)
       → Roll items number base callers list made next word views → Roll items number base callers list made next word (set views id w)
   roll_stays views id v w at p n o u l m g d r =
       roll_on views (set views id w) r
@@ -55,7 +56,7 @@ module _ {V I B : Type 0} (items : V → List I) (number : I → ℕ) (base : V 
       (omega (arith, sum_stays views id v w at (low_of callers) l))
       (λ P h. each_found_set P views id w h (m P (h id v at)))
       (λ i. omega (arith, sum_stays views id v w at (made_of callers i) (g i)))
-      (omega (arith, sum_stays views id v w at draws_of d))
+      (λ count. sum_stays views id v w at (moves_of count) (d count))
 
   -- a longer list, whose new entries have numbers of passes that were made
   pub roll_longer : (views : List (View I B)) (new : List I) → Roll items number base callers list made next word views → All (λ e. times (number e) made ≡ 1) new → Roll items number base callers (list ++ new) made next word views
@@ -63,6 +64,7 @@ module _ {V I B : Type 0} (items : V → List I) (number : I → ℕ) (base : V 
     counted = r.counted;
     fewer = r.fewer;
     drawn = r.drawn;
+    gone = r.gone;
     told = r.told;
     small = r.small;
     spent = r.spent;

@@ -7,7 +7,7 @@ use Rattle.lg_turn.specs.declared.view.Account.{Account}
 use Rattle.lg_turn.specs.declared.view.Stage.TheVariants.{Idle, Holds}
 use Rattle.lg_turn.specs.declared.fault.TurnFault.{TurnFault}
 use Rattle.lg_turn.specs.declared.fault.TurnFault.TheVariants.{Many, Spent}
-use Rattle.lg_turn.specs.Views.{drawing, base_in, seen_in, own_in, moves_in, MayFollow, drawn_in, out_in}
+use Rattle.lg_turn.specs.Views.{drawing, base_in, seen_in, own_in, moves_in, Precedes, MayFollow, drawn_in, out_in}
 
 -- what a split answers that finds this word of the roll: first whether any number is left, and then whether any place is
 abbrev pub fault_at : ℕ → ℕ → Option TurnFault
@@ -17,6 +17,16 @@ fault_at callers word = if nat_le 4294967168 (drawn_in word) then Some Spent els
 abbrev pub last_found : List (ℕ × ℕ) → ℕ
 last_found [] = 0
 last_found (move ∷ earlier) = move.0
+
+-- the word that was found at the move before the last one
+abbrev pub found_before_last : List (ℕ × ℕ) → ℕ
+found_before_last [] = 0
+found_before_last (move ∷ earlier) = last_found earlier
+
+-- what a refused split takes out of the roll again: its place, and past all numbers its number too
+abbrev pub excess_of : TurnFault → ℕ
+excess_of Many = 1
+excess_of Spent = 4294967297
 
 module _ {V I B : Type 0} {G : Ghosts V I B} where
   -- what the pass knows, as a list of one
@@ -42,8 +52,13 @@ module _ {V I B : Type 0} {G : Ghosts V I B} where
   abbrev pub moves_by : Pass V I B G → List (ℕ × ℕ)
   moves_by pass = moves_in pass.seat.me.0.accounts
 
+  -- the word found at the last move
   abbrev pub found_by : Pass V I B G → ℕ
   found_by pass = last_found (moves_by pass)
+
+  -- the word found at the move before: by a refused split, at its drawing
+  abbrev pub found_before : Pass V I B G → ℕ
+  found_before pass = found_before_last (moves_by pass)
 
   -- the roll may come to this word from all words that the pass found or left
   abbrev pub Follows : ℕ → Pass V I B G → Type 0
@@ -71,6 +86,14 @@ module _ {V I B : Type 0} {G : Ghosts V I B} where
   -- the pass made one move on the roll: it found a word that may follow on all that it knew, and left another
   abbrev pub HasMovedOnce : (ℕ → ℕ × ℕ) → Pass V I B G → Pass V I B G → Type 0
   HasMovedOnce move old new = (moves_by new ≡ move (found_by new) ∷ moves_by old) × Follows (found_by new) old
+
+  -- the pass made two moves on the roll, and found at each a word that may follow on all that it knew before
+  abbrev pub HasMovedTwice : (ℕ → ℕ × ℕ) → (ℕ → ℕ × ℕ) → Pass V I B G → Pass V I B G → Type 0
+  HasMovedTwice move next old new =
+      (moves_by new ≡ next (found_by new) ∷ move (found_before new) ∷ moves_by old)
+      × Follows (found_before new) old
+      × Follows (found_by new) old
+      × Precedes (move (found_before new)).1 (found_by new)
 
   -- a pass of this number that has seen what the other one has, and has made nothing, and no move on the roll
   abbrev pub IsSplitOff : Pass V I B G → ℕ → Pass V I B G → Type 0

@@ -9,7 +9,7 @@ use Rattle.lg_turn.specs.declared.view.Account.{Account}
 use Rattle.lg_turn.specs.declared.view.View.{View}
 use Rattle.lg_turn.specs.declared.view.Stage.{Stage}
 use Rattle.lg_turn.specs.declared.view.Stage.TheVariants.{Idle, Waits, Holds, Enrols, Undoes, Alone}
-use Rattle.lg_turn.specs.Views.{BeginsWith, of_pass, seen_in, drawn_in, out_in, draws_in, Precedes, EachWord}
+use Rattle.lg_turn.specs.Views.{BeginsWith, of_pass, seen_in, drawn_in, out_in, gone_in, rise_count, Precedes, EachWord}
 
 -- 1 for a stage with a ticket out
 abbrev pub ticket_count : Stage → ℕ
@@ -129,9 +129,9 @@ module _ {I B : Type 0} where
   abbrev pub values_of : View I B → ℕ
   values_of v = value_count v.stage
 
-  -- how many numbers its passes tell of that they drew
-  abbrev pub draws_of : View I B → ℕ
-  draws_of v = sum_by (λ (a : Account I B). draws_in a.moves) v.accounts
+  -- how many moves its passes tell of, as counted
+  abbrev pub moves_of : (ℕ × ℕ → ℕ) → View I B → ℕ
+  moves_of count v = sum_by (λ (a : Account I B). sum_by count a.moves) v.accounts
 
   -- what P says holds of each word that a pass of these seats found or left
   abbrev pub EachFound : (ℕ → Type 0) → List (View I B) → Type 0
@@ -177,8 +177,10 @@ module _ {V I B : Type 0} (items : V → List I) (number : I → ℕ) (base : V 
     pub counted : word ≡ (next + sum_by undone_of views) * 4294967296 + sum_by out_of views
     -- there are never more out than numbers drawn
     pub fewer : sum_by out_of views ≤ next + sum_by undone_of views
-    -- no number was drawn but those that passes tell of
-    pub drawn : next ≤ sum_by draws_of views
+    -- each number that was drawn while any was left is told of once, and none that was not
+    pub drawn : (n : ℕ) → n < 4294967168 → sum_by (moves_of (rise_count drawn_in n)) views ≡ (if nat_lt n (drawn_in word) then 1 else 0)
+    -- and so is each pass that has gone
+    pub gone : (n : ℕ) → sum_by (moves_of (rise_count gone_in n)) views ≡ (if nat_lt n (gone_in word) then 1 else 0)
     -- what was found of the roll is true
     pub told : Told word views
     -- past so many numbers each one that is drawn is undone

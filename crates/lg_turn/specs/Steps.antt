@@ -6,7 +6,7 @@ use Rattle.lg_turn.specs.declared.view.Account.{Account}
 use Rattle.lg_turn.specs.declared.view.View.{View}
 use Rattle.lg_turn.specs.declared.view.Stage.TheVariants.{Idle, Waits, Holds, Enrols, Undoes, Alone}
 use Rattle.lg_turn.specs.declared.view.Stage.{Stage}
-use Rattle.lg_turn.specs.Views.{account_of, blank, drawing, leaving, looking, MayFollow, first_of, others_of, number_in, seen_in, own_in, of_pass, BeginsWith, view_of, drawn_in, out_in, longer}
+use Rattle.lg_turn.specs.Views.{account_of, blank, drawing, leaving, looking, releasing, MayFollow, first_of, others_of, number_in, seen_in, own_in, of_pass, BeginsWith, view_of, drawn_in, out_in, longer}
 use Rattle.lg_turn.specs.Rule.{Fits}
 
 module _ {I B : Type 0} where
@@ -81,9 +81,12 @@ module _ {V I B : Type 0} where
   abbrev pub HasMoved : Me (Option V) (View I B) → ℕ × ℕ → Stage → Me (Option V) (View I B) → Type 0
   HasMoved me move stage me' = me' ≡ (view_of (map (moved move) me.0.accounts) stage, me.1)
 
-  -- the roll is right again
+  -- what was too much was taken out, and the roll is right again
+  abbrev pub HasReleased : ℕ → Me (Option V) (View I B) → ℕ → Me (Option V) (View I B) → Type 0
+  HasReleased excess me found me' = HasMoved me (releasing excess found) Idle me' × MayFollow me.0.accounts found
+
   abbrev pub Releases : Step (Option V) → Me (Option V) (View I B) → ℕ → Me (Option V) (View I B) → Type 0
-  Releases st me found me' = me' ≡ (view_of me.0.accounts Idle, me.1)
+  Releases st me found me' = HasReleased st.first me found me'
 
   -- one pass is out, which is this one, or more
   abbrev pub HasCounted : Me (Option V) (View I B) → ℕ → Me (Option V) (View I B) → Type 0

@@ -1,5 +1,5 @@
 -- What a pass knows of the one list, and where it stands. This project's own.
-use Rattle.std.specs.Prelude.{◌≡◌, ℕ, ◌+◌, ◌-◌, ◌*◌, ◌/◌, ◌%◌, ◌<◌, ◌≤◌, ◌==◌, All, nat_lt, if◌then◌else◌, List, [], ◌∷◌, ◌++◌, length, filter, sum_by, Option, Some, None, Bool, true, false, ◌&&◌, is_none}
+use Rattle.std.specs.Prelude.{◌≡◌, ℕ, ◌+◌, ◌-◌, ◌*◌, ◌/◌, ◌%◌, ◌<◌, ◌≤◌, ◌==◌, All, nat_lt, if◌then◌else◌, List, [], ◌∷◌, ◌++◌, length, filter, Option, Some, None, Bool, true, false, ◌&&◌, is_none}
 use Rattle.atomic_table.specs.Table.{Me}
 use Rattle.lg_turn.specs.declared.view.Account.{Account}
 use Rattle.lg_turn.specs.declared.view.View.{View}
@@ -30,13 +30,17 @@ drawing found = (found, found + 4294967297)
 abbrev pub leaving : ℕ → ℕ × ℕ
 leaving found = (found, found - 1)
 
+-- what a refused split put in too much is taken out
+abbrev pub releasing : ℕ → ℕ → ℕ × ℕ
+releasing excess found = (found, found - excess)
+
 -- nothing changes
 abbrev pub looking : ℕ → ℕ × ℕ
 looking found = (found, found)
 
--- how many of the moves draw a number
-abbrev pub draws_in : List (ℕ × ℕ) → ℕ
-draws_in moves = sum_by (λ m. if nat_lt (drawn_in m.0) (drawn_in m.1) then 1 else 0) moves
+-- 1 for a move by which what is tallied in a word, as the numbers drawn or the passes gone, rises from n
+abbrev pub rise_count : (ℕ → ℕ) → ℕ → ℕ × ℕ → ℕ
+rise_count tally n move = if nat_lt (tally move.0) (tally move.1) then (if tally move.0 == n then 1 else 0) else 0
 
 module _ {I : Type 0} where
   -- of two beginnings of one list the longer one

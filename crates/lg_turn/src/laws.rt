@@ -6,7 +6,7 @@ ghost use lib.ListN.{get_elem?};
 ghost use Rattle.atomic_table.specs.Table.{State};
 ghost use Rattle.lg_turn.specs.declared.view.View.{View};
 ghost use Rattle.lg_turn.specs.declared.view.Stage.TheVariants.{Holds, Alone};
-ghost use Rattle.lg_turn.specs.Views.{of_pass, drawn_in, out_in};
+ghost use Rattle.lg_turn.specs.Views.{of_pass, drawn_in, out_in, Precedes, MayFollow};
 ghost use Rattle.lg_turn.specs.Rule.{IsKept, passes_of, with_number, out_of};
 
 use crate::keeps::Keeps;
@@ -71,6 +71,16 @@ pub fn alone_leaves_no_other<V: Keeps>()
     ensures { (callers : ℕ) (base : V.Base) (s : State _ (View V.Item V.Base)) (i j : ℕ) (v w : View V.Item V.Base)
         → IsKept V.items V.number V.base callers base s
         → get_elem? s.views i ≡ some v → v.stage ≡ Alone → get_elem? s.views j ≡ some w → i ≢ j → w.accounts ≡ [] }
+{}
+
+/// Where one seat has all passes, and numbers are left, it finds no other count of passes out than the roll has: in a
+/// word that may follow on all that they found and left, and on which the roll may follow.
+pub fn all_passes_find_the_roll<V: Keeps>()
+    ensures { (callers : ℕ) (base : V.Base) (s : State _ (View V.Item V.Base)) (i word : ℕ) (v : View V.Item V.Base)
+        → IsKept V.items V.number V.base callers base s
+        → get_elem? s.views i ≡ some v → ((j : ℕ) (w : View V.Item V.Base) → get_elem? s.views j ≡ some w → i ≢ j → w.accounts ≡ [])
+        → MayFollow v.accounts word → Precedes word (slice_index s.words 2) → drawn_in (slice_index s.words 2) < 4294967168
+        → out_in word ≡ out_in (slice_index s.words 2) }
 {}
 
 /// There are never more passes than callers.

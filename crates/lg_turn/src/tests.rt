@@ -176,6 +176,22 @@ fn a_turn_of_two_has_two_passes_at_most(rt: HostRuntime) -> Result<(), Fail> {
     Ok(())
 }
 
+// The one pass of one caller isn't split, and the turn ends all the same.
+#[test]
+fn a_turn_of_one_ends_behind_refused_splits(rt: HostRuntime) -> Result<(), Fail> {
+    let rounds = Rounds {
+        first: 7,
+        made: Vec::new(rt.alloc()),
+    };
+    let (turn, mut only) = Turn::make(rt.alloc(), rounds, 1).map_err(|back| back.1)?;
+    let refused = turn.split(&mut only);
+    let again = turn.split(&mut only);
+    assert_eq!(rt; refused.err(), Some(TurnFault::Many));
+    assert_eq!(rt; again.err(), Some(TurnFault::Many));
+    assert!(rt; turn.close(only).is_ok());
+    Ok(())
+}
+
 // Where all callers have a pass from the start none is split.
 #[test]
 fn passes_of_all_callers_are_not_split(rt: HostRuntime) -> Result<(), Fail> {

@@ -19,5 +19,5 @@ fetch_sub-requires g c =
           (λ (carried : List (ℕ × Option g.row.V.Denot)).
           Allows (IsKept k.items k.number k.base terms.callers (k.base terms.first.value)) slots seat.id (seat.me.0, carried) 2 (λ n. (n + (2 ^ 64 - excess)) % 2 ^ 64) (Releases (step slots 2 excess 0 none) (seat.me.0, carried)))
           (sym c.requires.owes.2)
-          (releases k.items k.number k.base terms.callers (k.base terms.first.value) slots seat.id excess seat.me.0.accounts seat.me.0.stage c.requires.owes.0 c.requires.owes.1),
+          (releases k.items k.number k.base terms.callers (k.base terms.first.value) slots seat.id excess seat.me.0.accounts seat.me.0.stage c.requires.pass c.requires.owes.0 c.requires.owes.1),
     )
