@@ -1,13 +1,18 @@
 -- Amounts by name. This project's own, after Luigi's resources.
 use Rattle.std.specs.Prelude.{◌≡◌, ℕ, ◌+◌, ◌≤◌, List, All, unwrap_or}
 use Rattle.std.specs.Borrow.{Bor}
+use Rattle.std.specs.Coded.{Coded, coded_ℕ, coded_list}
 use Rattle.std.specs.Ordering.{nat_cmp}
 use Rattle.std.specs.Cmp.Lexicographic.{slice_cmp}
-use Rattle.std.specs.FinMap.{FinMap, get, entries}
+use Rattle.std.specs.FinMap.{FinMap, get, entries, code}
 
 -- a finite map from the bytes of a name to an amount, in the order of bytes
 abbrev pub AmountsByName : Type 0
 AmountsByName = FinMap (slice_cmp nat_cmp) ℕ
+
+-- amounts are told apart as finite maps are
+abbrev pub amounts_code : Coded AmountsByName
+amounts_code = code {R = slice_cmp nat_cmp} (coded_list coded_ℕ) coded_ℕ
 
 -- how much a map has of a name: nothing where the name is absent
 abbrev pub amount_of : AmountsByName → List ℕ → ℕ

@@ -18,16 +18,15 @@ pub struct Amounts {
 }
 
 impl Model for Amounts {
-    ghost use Rattle.std.specs.Prelude.{T, ℕ};
+    ghost use Rattle.std.specs.Prelude.{T};
     ghost use Rattle.std.specs.Ordering.{nat_cmp};
     ghost use Rattle.std.specs.Cmp.Lexicographic.{slice_cmp};
-    ghost use Rattle.std.specs.Coded.{coded_ℕ, coded_list};
     ghost use Rattle.std.specs.FinMap as map;
-    ghost use Rattle.lg_base.specs.Amounts.{AmountsByName};
+    ghost use Rattle.lg_base.specs.Amounts.{AmountsByName, amounts_code};
 
     ghost Value = { AmountsByName };
 
-    ghost coded = { map.code (coded_list coded_ℕ) coded_ℕ };
+    ghost coded = { amounts_code };
 
     ghost view = { λ a. map.from_sorted a.pairs.items };
 

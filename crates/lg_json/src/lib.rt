@@ -16,3 +16,4 @@ pub use fields::{Fields, TakeFault, WrongKind};
 pub use out::{Out, emit, length};
 pub use pairs::canonical;
 pub use quoting::quote;
+pub use values::{amount_of, int_of};

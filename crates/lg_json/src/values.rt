@@ -28,7 +28,9 @@ pub(crate) fn truth_of(value: &Value) -> Result<bool, TakeFault>
     }
 }
 
-pub(crate) fn int_of(value: &Value) -> Result<i64, TakeFault>
+/// A whole number from -2^63 to 2^63 - 1. `WrongKind` where the value is no whole number (RFC 8259 has numbers alone; one
+/// with a fraction or an exponent, or past 64 bits, is none), `OutOfRange` where it is 2^63 or more. It takes no memory.
+pub fn int_of(value: &Value) -> Result<i64, TakeFault>
     ensures { result ≡ spec.int_of (view value.now) }
 {
     match value {
@@ -38,7 +40,9 @@ pub(crate) fn int_of(value: &Value) -> Result<i64, TakeFault>
     }
 }
 
-pub(crate) fn amount_of(value: &Value) -> Result<u32, TakeFault>
+/// A whole number from 0 to 2^32 - 1. `WrongKind` where the value is no whole number, `OutOfRange` where it is below 0, or
+/// 2^32 or more. It takes no memory.
+pub fn amount_of(value: &Value) -> Result<u32, TakeFault>
     ensures { result ≡ spec.amount_of (view value.now) }
 {
     match value {

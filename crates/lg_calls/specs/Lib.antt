@@ -1,0 +1,4 @@
+pub mod Request
+pub mod Task
+pub mod TaskView
+pub mod Valid

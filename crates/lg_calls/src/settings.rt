@@ -1,0 +1,35 @@
+use lg_base::Text;
+
+/// What the scheduler is set to. The names are those of Luigi 3's section `[scheduler]`, times in milliseconds from 0 to
+/// 10^15, counts from 0 to 10^12.
+#[derive(Debug, Drop)]
+pub struct Settings {
+    /// How long after a failure a task is tried again.
+    pub retry_delay: u64,
+    /// How long a task stays that nobody wants any more.
+    pub remove_delay: u64,
+    /// How long a worker may be silent.
+    pub worker_disconnect_delay: u64,
+    /// How long a failure counts.
+    pub disable_window: u64,
+    /// How long after its first failure a task has failed too often.
+    pub disable_hard_timeout: u64,
+    /// How long a task stays disabled.
+    pub disable_persist: u64,
+    /// With this many failures inside the window a task has failed too often.
+    pub retry_count: u64,
+    /// The most tasks that a listing shows.
+    pub max_shown_tasks: u64,
+    /// The most tasks that a graph shows.
+    pub max_graph_nodes: u64,
+    /// How long a task that is done isn't taken for pending again.
+    pub stable_done_cooldown: u64,
+    /// Whether each request for work prunes.
+    pub prune_on_get_work: bool,
+    /// Whether the scheduler can be paused.
+    pub pause_enabled: bool,
+    /// The file that keeps the state.
+    pub state_path: Option<Text>,
+    /// The most tasks that the scheduler keeps, from 1 to 1,000,000.
+    pub max_tasks: u64,
+}

@@ -1,0 +1,27 @@
+use crate::batcher::BatcherRec;
+use crate::settings::Settings;
+use crate::task::TaskRec;
+use crate::worker::WorkerRec;
+use lg_base::{Amounts, Moment, Seq};
+
+/// What the scheduler knows. It begins empty, and each request moves it on by one step.
+#[derive(Debug, Drop)]
+pub struct State {
+    /// The tasks, in the order in which they were made.
+    pub tasks: Seq<TaskRec>,
+    /// The workers, in the order of their ids' bytes.
+    pub workers: Seq<WorkerRec>,
+    /// The batchers, in the order of their workers, and then of their families.
+    pub batchers: Seq<BatcherRec>,
+    /// The limit of each resource that has one.
+    pub limits: Amounts,
+    /// Whether no work is given.
+    pub paused: bool,
+    /// The moment of the last step, below 2^62.
+    pub moment: Moment,
+    /// The moment of the last pruning; none before the first step.
+    pub pruned: Option<Moment>,
+    /// The number that the next task gets, at most 2^62.
+    pub next: u64,
+    pub settings: Settings,
+}
