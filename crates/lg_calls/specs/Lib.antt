@@ -1,3 +1,5 @@
+pub mod ArgumentName
+pub mod Reading
 pub mod Request
 pub mod Task
 pub mod TaskView

@@ -1,9 +1,11 @@
 //! What the scheduler knows, what it is asked, and what an engine answers.
 #![tactic(auto)]
 
+mod arguments;
 mod batcher;
 mod info;
 mod methods;
+mod refusal;
 mod request;
 mod retry_policy;
 mod settings;
@@ -35,6 +37,7 @@ pub use methods::task_search::TaskSearch;
 pub use methods::update_resource::UpdateResource;
 pub use methods::update_resources::UpdateResources;
 pub use methods::worker_list::WorkerList;
+pub use refusal::{ArgumentName, PayloadFault, Refusal};
 pub use request::Request;
 pub use retry_policy::RetryPolicy;
 pub use settings::Settings;

@@ -1,0 +1,123 @@
+//! The arguments of a call, read one after another out of the fields of its payload.
+ghost use Rattle.std.specs.Prelude.{◌≡◌, IfOk, IfSome};
+ghost use Rattle.lg_base.specs.Names.{AreInOrder};
+ghost use Rattle.lg_json.specs.Fields.{fields_view, text_in, truth_in, int_in, texts_in, pairs_in, amounts_in};
+ghost use Rattle.lg_calls.specs.Reading.{field, needed, left_in, present_as, taken_as, Reads};
+ghost use Rattle.lg_calls.specs.declared.refusal.Refusal.TheVariants.{OutOfRange};
+ghost use Rattle.lg_calls.specs.declared.refusal.PayloadFault.TheVariants.{Refused};
+
+use crate::refusal::{ArgumentName, PayloadFault, Refusal};
+use lg_base::{Amounts, Name, Seq, Text};
+use lg_json::{Fields, TakeFault};
+use std::alloc::Global;
+
+/// The arguments that aren't read yet. Each call that reads one takes its field out; a field that is null counts as absent.
+#[derive(Drop)]
+pub(crate) struct Arguments {
+    alloc: Global,
+    fields: Fields,
+}
+
+impl Arguments {
+    /// The arguments of a payload.
+    pub(crate) fn new(alloc: Global, fields: Fields) -> Arguments
+        ensures { left_in result ≡ fields_view fields }
+    {
+        Arguments { alloc, fields }
+    }
+
+    /// A text that may be absent.
+    pub(crate) fn text(&mut self, name: &'static str) -> Result<Option<Text>, PayloadFault>
+        ensures { Reads (field text_in name.now) self.old self.new result }
+    {
+        taken(name, self.fields.take_text(name))
+    }
+
+    /// A text that has to be there.
+    pub(crate) fn needed_text(&mut self, name: &'static str) -> Result<Text, PayloadFault>
+        ensures { Reads (needed text_in name.now) self.old self.new result }
+    {
+        present(name, self.text(name)?)
+    }
+
+    /// A truth value that may be absent.
+    pub(crate) fn truth(&mut self, name: &'static str) -> Result<Option<bool>, PayloadFault>
+        ensures { Reads (field truth_in name.now) self.old self.new result }
+    {
+        taken(name, self.fields.take_truth(name))
+    }
+
+    /// A whole number of 64 bits that may be absent.
+    pub(crate) fn int(&mut self, name: &'static str) -> Result<Option<i64>, PayloadFault>
+        ensures { Reads (field int_in name.now) self.old self.new result }
+    {
+        taken(name, self.fields.take_int(name))
+    }
+
+    /// A whole number of 64 bits that has to be there.
+    pub(crate) fn needed_int(&mut self, name: &'static str) -> Result<i64, PayloadFault>
+        ensures { Reads (needed int_in name.now) self.old self.new result }
+    {
+        present(name, self.int(name)?)
+    }
+
+    /// A list of texts that may be absent.
+    pub(crate) fn texts(&mut self, name: &'static str) -> Result<Option<Seq<Text>>, PayloadFault>
+        ensures { Reads (field texts_in name.now) self.old self.new result }
+    {
+        let texts = taken(name, self.fields.take_texts(self.alloc, name))?;
+        Ok(texts.map(Seq::from_vec))
+    }
+
+    /// An object of texts that may be absent, in the order of the names' bytes.
+    pub(crate) fn pairs(
+        &mut self,
+        name: &'static str,
+    ) -> Result<Option<Seq<(Name, Text)>>, PayloadFault>
+        ensures read { Reads (field pairs_in name.now) self.old self.new result }
+        ensures order { IfOk result (λ pairs. IfSome pairs AreInOrder) }
+    {
+        let pairs = taken(name, self.fields.take_pairs(self.alloc, name))?;
+        Ok(pairs.map(Seq::from_vec))
+    }
+
+    /// An object of amounts that may be absent.
+    pub(crate) fn amounts(&mut self, name: &'static str) -> Result<Option<Amounts>, PayloadFault>
+        ensures { Reads (field amounts_in name.now) self.old self.new result }
+    {
+        taken(name, self.fields.take_amounts(self.alloc, name))
+    }
+}
+
+/// A field as it was taken, or why it wasn't, with its name.
+fn taken<A>(name: &'static str, field: Result<A, TakeFault>) -> Result<A, PayloadFault>
+    ensures { result ≡ taken_as name.now field }
+{
+    match field {
+        Ok(value) => Ok(value),
+        Err(TakeFault::WrongKind) => Err(PayloadFault::Refused(Refusal::WrongKind(
+            ArgumentName::fixed(name),
+        ))),
+        Err(TakeFault::OutOfRange) => Err(PayloadFault::Refused(Refusal::OutOfRange(
+            ArgumentName::fixed(name),
+        ))),
+        Err(TakeFault::NoMemory) => Err(PayloadFault::NoMemory),
+    }
+}
+
+/// What has to be there.
+fn present<A>(name: &'static str, field: Option<A>) -> Result<A, PayloadFault>
+    ensures { result ≡ present_as name.now field }
+{
+    match field {
+        Some(value) => Ok(value),
+        None => Err(PayloadFault::Refused(Refusal::MissingArgument(ArgumentName::fixed(name)))),
+    }
+}
+
+/// The refusal of an argument that isn't in its range.
+pub(crate) fn out_of_range(name: &'static str) -> PayloadFault
+    ensures { result ≡ Refused (OutOfRange name.now) }
+{
+    PayloadFault::Refused(Refusal::OutOfRange(ArgumentName::fixed(name)))
+}
