@@ -1,6 +1,10 @@
 pub mod ArgumentName
+pub mod Engine
+pub mod Outcome
+pub mod Pruning
 pub mod Reading
 pub mod Request
+pub mod Step
 pub mod Task
 pub mod TaskView
 pub mod Valid

@@ -3,6 +3,7 @@
 
 mod arguments;
 mod batcher;
+mod engine;
 mod info;
 mod methods;
 mod refusal;
@@ -15,6 +16,7 @@ mod task;
 mod worker;
 
 pub use batcher::BatcherRec;
+pub use engine::{Engine, Reply, StepFault};
 pub use info::Info;
 pub use methods::add_task::AddTask;
 pub use methods::add_task_batcher::AddTaskBatcher;

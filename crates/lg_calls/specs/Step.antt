@@ -1,0 +1,34 @@
+-- What one request does to the state, and what it comes to. This project's own, after Luigi's central scheduler.
+use Rattle.std.specs.Prelude.{ℕ, ℤ, List, max, pos, negsuc, true, false}
+use Rattle.std.specs.FinMap.{insert}
+use Rattle.lg_json.specs.Tree.{null, truth}
+use Rattle.lg_calls.specs.declared.methods.update_resource.UpdateResource.{UpdateResource}
+use Rattle.lg_calls.specs.declared.request.Request.{Request}
+use Rattle.lg_calls.specs.declared.request.Request.TheVariants as Request
+use Rattle.lg_calls.specs.declared.state.State.{State}
+use Rattle.lg_calls.specs.Outcome.{Outcome, replied, full}
+use Rattle.lg_calls.specs.Pruning.{pruned_if_due}
+
+-- a limit below 0 isn't set
+abbrev pub limit_set : State → List ℕ → ℤ → State × Outcome
+limit_set state resource (pos amount) = (record state { limits = insert state.limits resource amount }, replied (truth true))
+limit_set state resource (negsuc amount) = (state, replied (truth false))
+
+-- what a request does to the state of its moment, one case a method that is built; no other is ever made
+abbrev pub applied : State → Request → State × Outcome
+applied state (Request.UpdateResource ask) = limit_set state ask.resource ask.amount
+applied state _ = (state, replied null)
+
+-- the state at the moment of a step, which is the later one of the moment handed in and the state's own; pruned if that is due
+abbrev pub begun : State → ℕ → Request → State
+begun state now request =
+    let at = max state.moment.0 now in pruned_if_due (record state { moment = record { 0 = at } }) at request
+
+-- a scheduler that is full stays as it was
+abbrev pub unless_full : State → State × Outcome → State × Outcome
+unless_full before (after, replied tree) = (after, replied tree)
+unless_full before (after, full tasks) = (before, full tasks)
+
+-- one step: the moment and the pruning first, then the request
+abbrev pub step : State → ℕ → Request → State × Outcome
+step state now request = unless_full state (applied (begun state now request) request)
