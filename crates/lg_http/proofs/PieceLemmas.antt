@@ -1,5 +1,5 @@
 -- Pieces that are written one after another.
-use Rattle.std.proofs.Common.{◌≡◌, ℕ, suc, ◌+◌, ◌-◌, ◌^◌, ◌<◌, min, List, [], ◌∷◌, ◌++◌, length, get_or, take, drop, sym, ◌∙◌, ap, drop-cons, length-append, append_assoc, arith}
+use Rattle.std.proofs.Common.{◌≡◌, ℕ, suc, ◌+◌, ◌<◌, List, [], ◌∷◌, ◌++◌, length, get_or, take, drop, sym, ◌∙◌, ap, drop-cons, length-append, append_assoc, arith}
 use Rattle.std.specs.List.{flat_map}
 use Rattle.std.proofs.lemmas.Grind.{flat_map-append}
 use Rattle.std.proofs.lemmas.List.{take-append-drop}
@@ -7,7 +7,9 @@ use Rattle.std.specs.Borrow.{Bor}
 use Rattle.std.specs.Fmt.{decimal}
 use Rattle.std.specs.Prelude.{Bool, codes, unwrap_or}
 use Rattle.lg_json.specs.Capped.{capped}
-use Rattle.lg_http.specs.Response.{head_of, reason_of, closing}
+use Rattle.lg_json.specs.Text.{text_of}
+use Rattle.lg_json.specs.Tree.{Tree}
+use Rattle.lg_http.specs.Response.{head_of, body_of, reason_of, opening, closing, front_of, response_bytes}
 
 abbrev pub bytes_in : Bor (List ℕ) → List ℕ
 bytes_in piece = piece.now
@@ -36,7 +38,14 @@ head_pieces status size last s r z l e f h k = rw (e, f, h, k) (regroup (decimal
     regroup s r z l = simp append_assoc
 
 -- the size of a body that is told before it is written
-pub size_told : (opened text : List ℕ) (measured total : ℕ) → measured ≡ capped (length text)
-    → total ≡ min (measured + (length opened + 1)) (2 ^ 64 - 1) → total ≡ capped (length (opened ++ (text ++ 125 ∷ [])))
-size_told opened text measured total is sum =
-    omega (arith, is, sum, length-append opened (text ++ 125 ∷ []), length-append text (125 ∷ []))
+size_told : (opened text : List ℕ) (size : ℕ) → size ≡ capped (length text)
+    → capped (size + (length opened + 1)) ≡ capped (length (opened ++ (text ++ 125 ∷ [])))
+size_told opened text size is =
+    omega (arith, is, length-append opened (text ++ 125 ∷ []), length-append text (125 ∷ []))
+
+-- what stands before a tree, its text and the brace are the response
+pub response_parts : (status : ℕ) (tree : Tree) (last : Bool) (size : ℕ) → size ≡ capped (length (text_of tree))
+    → front_of status size last ++ (text_of tree ++ 125 ∷ []) ≡ response_bytes status tree last
+response_parts status tree last size is =
+    append_assoc (head_of status (capped (size + (length (opening status) + 1))) last) (opening status) (text_of tree ++ 125 ∷ [])
+    ∙ ap (λ (n : ℕ). head_of status n last ++ body_of status tree) (size_told (opening status) (text_of tree) size is)

@@ -1,6 +1,6 @@
 -- The bytes of a response (RFC 9112, section 4; the reasons are those of RFC 9110, section 15). The bodies are this
 -- project's own, after Luigi's.
-use Rattle.std.specs.Prelude.{ℕ, Bool, List, [], ◌++◌, length, Option, Some, None, unwrap_or, IsSome, if◌then◌else◌, ◌==◌, codes}
+use Rattle.std.specs.Prelude.{ℕ, ◌+◌, Bool, List, [], ◌++◌, length, Option, Some, None, unwrap_or, IsSome, if◌then◌else◌, ◌==◌, codes}
 use Rattle.std.specs.Fmt.{decimal}
 use Rattle.lg_json.specs.Capped.{capped}
 use Rattle.lg_json.specs.Text.{text_of}
@@ -51,3 +51,7 @@ head_of status size last =
 abbrev pub response_bytes : ℕ → Tree → Bool → List ℕ
 response_bytes status tree last =
     let body = body_of status tree in head_of status (capped (length body)) last ++ body
+
+-- what stands before a tree whose text has so many bytes
+abbrev pub front_of : ℕ → ℕ → Bool → List ℕ
+front_of status size last = head_of status (capped (size + (length (opening status) + 1))) last ++ opening status

@@ -16,7 +16,7 @@ pub use laws::{bad_stays, bad_wants_no_memory, first_messages, never_both, one_r
 pub use message::{Message, Next};
 pub use reader::Reader;
 pub use reader_end::ReaderEnd;
-pub use response::respond;
+pub use response::{respond, respond_error};
 
 #[cfg(test)]
 mod tests;

@@ -2,6 +2,7 @@ mod Characters
 mod Commas
 mod InOrder
 mod PairTexts
+mod Parts
 mod Printable
 mod Reading
 mod Removal

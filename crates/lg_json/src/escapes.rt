@@ -1,9 +1,13 @@
-ghost use Rattle.std.specs.Prelude.{◌≡◌, ℕ, ◌+◌, ◌<◌, ◌≤◌, ◌++◌, true, false, slice_index, length, flat_map, chars, slice_get, IfSome, IsUtf8};
+ghost use Rattle.std.specs.Prelude.{◌≡◌, ℕ, ◌+◌, ◌<◌, ◌≤◌, ◌++◌, true, false, slice_index, length, flat_map, chars, slice_get, IfSome, IsErr, IsUtf8};
 ghost use Rattle.std.specs.Char.{digit_char};
+ghost use Rattle.lg_io.specs.Cause.{HasCause};
+ghost use Rattle.lg_io.specs.Sink.{WritesAll};
+ghost use Rattle.lg_io.specs.Writes.{Writes};
 ghost use Rattle.lg_json.specs.Capped.{capped};
 ghost use Rattle.lg_json.specs.Escapes.{is_plain, letter_of, unit_escape, escape, escaped};
-ghost use Rattle.lg_json.specs.Text.{quoted};
-ghost use Rattle.lg_io.specs.Writes.{Writes};
+ghost use Rattle.lg_json.specs.Parts.{joined};
+ghost use Rattle.lg_json.specs.Text.{quoted, text_of};
+ghost use Rattle.lg_json.specs.Tree.{str};
 
 use lg_base::Failed;
 use lg_io::{Sink, write_all};
@@ -12,25 +16,57 @@ use lg_io::{Sink, write_all};
 pub(crate) fn quoted_length(text: &str) -> u64
     ensures { result ≡ capped (length (quoted text.now)) }
 {
-    // The two quotes.
-    let mut total: u64 = 2;
-    for c in text.chars() {
-        total = total.saturating_add(escape_length(c));
-    }
-    total
+    parts_length(&[text])
 }
 
 /// Writes a text between quotes, with its escapes.
 pub(crate) fn emit_quoted<S: Sink>(text: &str, sink: &mut S) -> Result<(), Failed>
     ensures { Writes S.taken S.faults S.rest sink.old sink.new (quoted text.now) result }
 {
+    emit_parts(&[text], sink)
+}
+
+/// The number of bytes of the JSON text that `emit_parts` writes, or 2^64 - 1 where there are more. It takes no memory.
+pub fn parts_length(parts: &[&str]) -> u64
+    ensures { result ≡ capped (length (text_of (str (joined parts.now)))) }
+{
+    // The two quotes.
+    let mut total: u64 = 2;
+    for part in parts {
+        total = total.saturating_add(escaped_length(part));
+    }
+    total
+}
+
+/// Writes the one JSON text of the parts, one behind the other: between quotes, with escapes for all but printable
+/// ASCII. Where a write fails a front of it was written. It takes no memory.
+pub fn emit_parts<S: Sink>(parts: &[&str], sink: &mut S) -> Result<(), Failed>
+    ensures told { WritesAll (S.taken sink.old) (S.taken sink.new) (text_of (str (joined parts.now))) result }
+    ensures cause { HasCause (S.faults sink.old) (S.faults sink.new) (IsErr result) }
+    ensures rest { S.rest sink.new ≡ S.rest sink.old }
+{
     write_all(sink, b"\"")?;
-    emit_escaped(text, sink)?;
+    for part in parts {
+        emit_escaped(part, sink)?;
+    }
     write_all(sink, b"\"")
 }
 
+/// The number of bytes of a text's escapes, or 2^64 - 1 where there are more.
+fn escaped_length(text: &str) -> u64
+    ensures size { result ≡ capped (length (escaped (chars text.now))) }
+    ensures utf8 { IsUtf8 text.now }
+{
+    let mut total: u64 = 0;
+    for c in text.chars() {
+        total = total.saturating_add(escape_length(c));
+    }
+    total
+}
+
 fn emit_escaped<S: Sink>(text: &str, sink: &mut S) -> Result<(), Failed>
-    ensures { Writes S.taken S.faults S.rest sink.old sink.new (escaped (chars text.now)) result }
+    ensures written { Writes S.taken S.faults S.rest sink.old sink.new (escaped (chars text.now)) result }
+    ensures utf8 { IsUtf8 text.now }
 {
     let mut left = text;
     loop {

@@ -12,6 +12,7 @@ mod quoting;
 mod tests;
 mod values;
 
+pub use escapes::{emit_parts, parts_length};
 pub use fields::{Fields, TakeFault, WrongKind};
 pub use out::{Out, emit, length};
 pub use pairs::canonical;

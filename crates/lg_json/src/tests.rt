@@ -1,8 +1,9 @@
-use crate::{Fields, Out, TakeFault, canonical, emit, length, quote};
+use crate::{Fields, Out, TakeFault, canonical, emit, emit_parts, length, parts_length, quote};
 use lg_base::{Name, Text};
 use lg_io::{FaultList, MemorySink, NoFaults};
 use serde_json::Value;
 use std::alloc::Global;
+use std::process::Abort;
 use std::test::Fail;
 
 fn text(alloc: Global, text: &str) -> Result<Out, Fail> {
@@ -123,6 +124,89 @@ fn a_write_that_fails_ends_the_text(rt: HostRuntime) -> Result<(), Fail> {
         assert!(rt; emit(&tree, &mut sink).is_err(), "{place}");
         assert_eq!(rt; sink.bytes(), &expected[..place]);
         assert_eq!(rt; sink.planned_faults(), 1);
+    }
+    Ok(())
+}
+
+/// One refusal in parts, cut at different places.
+const REFUSAL: [&[&str]; 4] = [
+    &["missing a\"b\\c\n\r\t\u{8}\u{c}\0\u{1f}\u{7f}é\u{ffff}😀\u{10000}"],
+    &[
+        "missing ",
+        "a\"b\\c\n\r\t\u{8}\u{c}\0\u{1f}\u{7f}é\u{ffff}😀\u{10000}",
+    ],
+    &[
+        "",
+        "missing a\"",
+        "b\\c\n\r",
+        "",
+        "\t\u{8}\u{c}\0\u{1f}",
+        "\u{7f}é",
+        "\u{ffff}😀",
+        "\u{10000}",
+        "",
+    ],
+    &[
+        "missing ",
+        "a",
+        "\"",
+        "b",
+        "\\",
+        "c",
+        "\n",
+        "\r",
+        "\t",
+        "\u{8}",
+        "\u{c}",
+        "\0",
+        "\u{1f}",
+        "\u{7f}",
+        "é",
+        "\u{ffff}",
+        "😀",
+        "\u{10000}",
+    ],
+];
+
+/// The refusal as JSON has it.
+const REFUSED: &str =
+    "\"missing a\\\"b\\\\c\\n\\r\\t\\b\\f\\u0000\\u001f\\u007f\\u00e9\\uffff\\ud83d\\ude00\\ud800\\udc00\"";
+
+fn assert_parts(
+    rt: &impl Abort,
+    alloc: Global,
+    parts: &[&str],
+    expected: &str,
+) -> Result<(), Fail> {
+    let mut sink = MemorySink::new(alloc, 3, NoFaults);
+    emit_parts(parts, &mut sink)?;
+    assert_eq!(rt; sink.bytes(), expected.as_bytes(), "{parts:?}");
+    assert_eq!(rt; parts_length(parts), expected.len() as u64, "{parts:?}");
+    Ok(())
+}
+
+#[test]
+fn parts_are_one_text_wherever_it_is_cut(rt: HostRuntime) -> Result<(), Fail> {
+    for parts in REFUSAL {
+        assert_parts(&rt, rt.alloc(), parts, REFUSED)?;
+    }
+    let empty: [&[&str]; 3] = [&[], &[""], &["", ""]];
+    for parts in empty {
+        assert_parts(&rt, rt.alloc(), parts, "\"\"")?;
+    }
+    Ok(())
+}
+
+#[test]
+fn a_write_that_fails_ends_the_parts(rt: HostRuntime) -> Result<(), Fail> {
+    for parts in REFUSAL {
+        for place in 0..REFUSED.len() {
+            let plan = FaultList::new(vec![in rt.alloc(); place as u64]?);
+            let mut sink = MemorySink::new(rt.alloc(), 1, plan);
+            assert!(rt; emit_parts(parts, &mut sink).is_err(), "{place}");
+            assert_eq!(rt; sink.bytes(), &REFUSED.as_bytes()[..place]);
+            assert_eq!(rt; sink.planned_faults(), 1);
+        }
     }
     Ok(())
 }

@@ -1,7 +1,0 @@
-use Rattle.std.proofs.Common.{◌≡◌, ◌+◌, length}
-use Rattle.lg_json.specs.Capped.{capped}
-use Rattle.lg_json.specs.Escapes.{escaped}
-use Rattle.lg_json.proofs.escapes.quoted_length.Given as goal
-
-abbrev pub invariant-loop-c : goal.invariant-loop-c
-invariant-loop-c l = l.total ≡ capped (2 + length (escaped l.yielded))
