@@ -1,6 +1,10 @@
 pub mod ArgumentName
+pub mod Order
 pub mod Reading
 pub mod Request
+pub mod Settings
+pub mod State
 pub mod Task
 pub mod TaskView
 pub mod Valid
+pub mod ValidOnce

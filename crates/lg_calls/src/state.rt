@@ -1,11 +1,14 @@
 ghost use Rattle.std.specs.Prelude.{◌≡◌, IfOk};
+ghost use Rattle.lg_calls.specs.Settings.{AreInRange};
+ghost use Rattle.lg_calls.specs.State.{empty_state};
+ghost use Rattle.lg_calls.specs.Valid.{IsValidState};
 
 use crate::batcher::BatcherRec;
 use crate::settings::Settings;
 use crate::task::TaskRec;
 use crate::worker::WorkerRec;
 use lg_base::{Amounts, Moment, NoMemory, Seq};
-use std::alloc::AllocError;
+use std::alloc::{AllocError, Global};
 
 /// What the scheduler knows. It begins empty, and each request moves it on by one step.
 #[derive(Debug, Drop)]
@@ -30,6 +33,25 @@ pub struct State {
 }
 
 impl State {
+    /// The state in which the scheduler begins: no tasks, workers, batchers or limits, not paused, at moment 0, and no
+    /// pruning yet. It takes no memory.
+    pub fn empty(alloc: Global, settings: Settings) -> State
+        ensures empty { result ≡ empty_state settings }
+        ensures valid { AreInRange settings → IsValidState result }
+    {
+        State {
+            tasks: Seq::new(alloc),
+            workers: Seq::new(alloc),
+            batchers: Seq::new(alloc),
+            limits: Amounts::new(alloc),
+            paused: false,
+            moment: Moment(0),
+            pruned: None,
+            next: 0,
+            settings,
+        }
+    }
+
     /// A state equal to this one.
     pub fn copy(&self) -> Result<State, NoMemory>
         ensures { IfOk result (λ copy. copy ≡ self.now) }
