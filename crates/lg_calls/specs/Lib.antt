@@ -1,4 +1,5 @@
 pub mod ArgumentName
+pub mod Look
 pub mod Order
 pub mod Reading
 pub mod Request
@@ -6,5 +7,6 @@ pub mod Settings
 pub mod State
 pub mod Task
 pub mod TaskView
+pub mod Tasks
 pub mod Valid
 pub mod ValidOnce

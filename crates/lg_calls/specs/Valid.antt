@@ -14,6 +14,7 @@ use Rattle.lg_calls.specs.declared.worker.WorkerRec.{WorkerRec}
 use Rattle.lg_calls.specs.Order.{all_pairs, are_sorted, are_distinct}
 use Rattle.lg_calls.specs.Settings.{AreInRange}
 use Rattle.lg_calls.specs.Task.{Task}
+use Rattle.lg_calls.specs.Tasks.{ids_of, numbers_of}
 
 -- the task runs, alone or in a batch
 abbrev pub is_running : Status → Bool
@@ -80,13 +81,7 @@ abbrev pub batcher_is_before : BatcherRec → BatcherRec → Bool
 batcher_is_before one other =
     is_lt (ordering_then (slice_cmp nat_cmp one.worker other.worker) (slice_cmp nat_cmp one.family other.family))
 
--- the ids of tasks, their numbers, and the ids of workers
-abbrev pub ids_of : List Task → List (List ℕ)
-ids_of tasks = map (λ task. task.id) tasks
-
-abbrev pub numbers_of : List Task → List ℕ
-numbers_of tasks = map (λ task. task.number) tasks
-
+-- the ids of workers
 abbrev pub worker_ids_of : List WorkerRec → List (List ℕ)
 worker_ids_of workers = map (λ worker. worker.id) workers
 

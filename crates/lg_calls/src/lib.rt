@@ -4,6 +4,7 @@
 mod arguments;
 mod batcher;
 mod info;
+mod look;
 mod methods;
 mod refusal;
 mod request;
@@ -16,6 +17,7 @@ mod worker;
 
 pub use batcher::BatcherRec;
 pub use info::Info;
+pub use look::Look;
 pub use methods::add_task::AddTask;
 pub use methods::add_task_batcher::AddTaskBatcher;
 pub use methods::add_worker::AddWorker;

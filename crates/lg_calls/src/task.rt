@@ -1,4 +1,5 @@
 ghost use Rattle.std.specs.Prelude.{◌≡◌, IfOk};
+ghost use Rattle.lg_calls.specs.Tasks.{has_id};
 
 use crate::status::Status;
 use lg_base::{Amounts, Moment, Name, NoMemory, Seq, TaskId, Text, WorkerId};
@@ -81,6 +82,13 @@ impl TaskRec {
         ensures { IfOk result (λ copy. copy ≡ self.now) }
     {
         Ok(self.clone()?)
+    }
+
+    /// Whether this is the task of an id.
+    pub fn has_id(&self, id: &TaskId) -> bool
+        ensures { result ≡ has_id id.now self.now }
+    {
+        id.cmp(&self.id).is_eq()
     }
 
     // What names the task: its id, family, module and parameters.
