@@ -1,10 +1,16 @@
 pub mod ArgumentName
 pub mod Engine
+pub mod Look
+pub mod Order
 pub mod Outcome
 pub mod Pruning
 pub mod Reading
 pub mod Request
+pub mod Settings
+pub mod State
 pub mod Step
 pub mod Task
 pub mod TaskView
+pub mod Tasks
 pub mod Valid
+pub mod ValidOnce
