@@ -1,4 +1,5 @@
 pub mod ArgumentName
+pub mod Method
 pub mod Reading
 pub mod Request
 pub mod Task

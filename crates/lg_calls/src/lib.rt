@@ -4,6 +4,8 @@
 mod arguments;
 mod batcher;
 mod info;
+pub mod laws;
+mod method;
 mod methods;
 mod refusal;
 mod request;
@@ -16,6 +18,7 @@ mod worker;
 
 pub use batcher::BatcherRec;
 pub use info::Info;
+pub use method::{Method, MethodFault};
 pub use methods::add_task::AddTask;
 pub use methods::add_task_batcher::AddTaskBatcher;
 pub use methods::add_worker::AddWorker;
