@@ -1,4 +1,5 @@
 pub mod ArgumentName
+pub mod Methods
 pub mod Reading
 pub mod Request
 pub mod Task
