@@ -5,3 +5,4 @@ pub mod Request
 pub mod Task
 pub mod TaskView
 pub mod Valid
+pub mod Words

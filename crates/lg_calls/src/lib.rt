@@ -12,6 +12,7 @@ mod settings;
 mod state;
 mod status;
 mod task;
+mod words;
 mod worker;
 
 pub use batcher::BatcherRec;
