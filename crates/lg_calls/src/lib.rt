@@ -14,6 +14,7 @@ mod settings;
 mod state;
 mod status;
 mod task;
+mod words;
 mod worker;
 
 pub use batcher::BatcherRec;

@@ -1,0 +1,16 @@
+pub mod CountPending
+pub mod DisableWorker
+pub mod FetchError
+pub mod ForgiveFailures
+pub mod GetRunningTaskResources
+pub mod GetTaskProgressPercentage
+pub mod GetTaskStatusMessage
+pub mod GetWork
+pub mod MarkAsDone
+pub mod Ping
+pub mod ReEnableTask
+pub mod SetTaskProgressPercentage
+pub mod SetTaskStatusMessage
+pub mod TaskSearch
+pub mod UpdateResource
+pub mod WorkerList
