@@ -1,7 +1,9 @@
 pub mod ArgumentName
+pub mod Call
 pub mod Method
 pub mod Methods
 pub mod Reading
+pub mod Refusal
 pub mod Request
 pub mod Task
 pub mod TaskView

@@ -3,6 +3,7 @@
 
 mod arguments;
 mod batcher;
+mod call;
 mod info;
 pub mod laws;
 mod method;
@@ -18,6 +19,7 @@ mod words;
 mod worker;
 
 pub use batcher::BatcherRec;
+pub use call::{CallFault, request_of, requested};
 pub use info::Info;
 pub use method::{Method, MethodFault};
 pub use methods::add_task::AddTask;

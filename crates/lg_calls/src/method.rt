@@ -1,6 +1,7 @@
 //! The methods of the scheduler's RPC, as Luigi 3 names them.
 ghost use Rattle.std.specs.Prelude.{◌≡◌, option_map};
 ghost use Rattle.lg_calls.specs.Method.{row_named, method_named, method_asked};
+ghost use Rattle.lg_calls.specs.Refusal.{method_fault_text};
 
 /// A method of the RPC, built or not.
 #[derive(Clone, Copy, Debug, PartialEq, Eq)]
@@ -46,6 +47,18 @@ pub enum MethodFault {
     UnknownMethod,
     /// The method of this name isn't built.
     NotBuilt,
+}
+
+impl MethodFault {
+    /// The fault in words.
+    pub fn words(self) -> &'static str
+        ensures { result.now ≡ method_fault_text self }
+    {
+        match self {
+            MethodFault::UnknownMethod => "unknown method",
+            MethodFault::NotBuilt => "not built",
+        }
+    }
 }
 
 /// The name of each method, and whether it is built.
