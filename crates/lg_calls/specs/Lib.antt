@@ -1,5 +1,6 @@
 pub mod ArgumentName
 pub mod Methods
+pub mod Ranges
 pub mod Reading
 pub mod Request
 pub mod Task

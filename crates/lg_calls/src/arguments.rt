@@ -110,6 +110,11 @@ impl Arguments {
     {
         taken(name, self.fields.take_amounts(self.alloc, name))
     }
+
+    /// Where what is read takes its memory.
+    pub(crate) fn alloc(&self) -> Global {
+        self.alloc
+    }
 }
 
 /// A field as it was taken, or why it wasn't, with its name.

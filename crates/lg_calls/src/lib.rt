@@ -5,6 +5,7 @@ mod arguments;
 mod batcher;
 mod info;
 mod methods;
+mod ranges;
 mod refusal;
 mod request;
 mod retry_policy;
