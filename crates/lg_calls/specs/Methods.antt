@@ -15,4 +15,5 @@ pub mod SetTaskStatusMessage
 pub mod TaskList
 pub mod TaskSearch
 pub mod UpdateResource
+pub mod UpdateResources
 pub mod WorkerList

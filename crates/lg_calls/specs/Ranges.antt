@@ -1,9 +1,11 @@
 -- Arguments of which not every value is in range. This project's own, after Luigi's RPC.
 use Rattle.std.specs.Prelude.{ℕ, ℤ, pos, negsuc, ◌^◌, ◌&&◌, nat_le, nat_lt, Bool, true, if◌then◌else◌, List, Option, Some, None, Result, Ok, Err}
 use Rattle.lg_json.specs.Fields.{int_in}
-use Rattle.lg_calls.specs.declared.refusal.Refusal.TheVariants.{OutOfRange}
+use Rattle.lg_json.specs.declared.fields.TakeFault.{TakeFault}
+use Rattle.lg_json.specs.declared.fields.TakeFault.TheVariants as Take
+use Rattle.lg_calls.specs.declared.refusal.Refusal.TheVariants.{WrongKind, OutOfRange}
 use Rattle.lg_calls.specs.declared.refusal.PayloadFault.{PayloadFault}
-use Rattle.lg_calls.specs.declared.refusal.PayloadFault.TheVariants.{Refused}
+use Rattle.lg_calls.specs.declared.refusal.PayloadFault.TheVariants.{Refused, NoMemory}
 use Rattle.lg_calls.specs.Reading.{Reading, ◌>>=◌, field}
 
 -- what was read has to stand for something
@@ -14,6 +16,12 @@ known name None fields = Err (OutOfRange name)
 abbrev pub known_as : {A : Type 0} → List ℕ → Option A → Result A PayloadFault
 known_as name (Some x) = Ok x
 known_as name None = Err (Refused (OutOfRange name))
+
+-- the refusal of an argument that couldn't be taken
+abbrev pub fault_of : List ℕ → TakeFault → PayloadFault
+fault_of name Take.WrongKind = Refused (WrongKind name)
+fault_of name Take.OutOfRange = Refused (OutOfRange name)
+fault_of name Take.NoMemory = NoMemory
 
 -- a count that may be absent: nothing where it is less than the least
 abbrev pub count_from : ℕ → Option ℤ → Option (Option ℕ)

@@ -1,10 +1,11 @@
 //! Arguments of which not every value is in range.
 ghost use Rattle.std.specs.Prelude.{◌≡◌, IsTrue, IfOk, IfSome};
-ghost use Rattle.lg_calls.specs.Ranges.{known_as, count, count_from, is_count};
+ghost use Rattle.lg_calls.specs.Ranges.{known_as, fault_of, count, count_from, is_count};
 ghost use Rattle.lg_calls.specs.Reading.{Reads};
 
 use crate::arguments::{Arguments, out_of_range};
-use crate::refusal::PayloadFault;
+use crate::refusal::{ArgumentName, PayloadFault, Refusal};
+use lg_json::TakeFault;
 
 /// What an argument stands for; one that stands for nothing is out of range.
 pub(crate) fn known<A>(name: &'static str, value: Option<A>) -> Result<A, PayloadFault>
@@ -13,6 +14,17 @@ pub(crate) fn known<A>(name: &'static str, value: Option<A>) -> Result<A, Payloa
     match value {
         Some(value) => Ok(value),
         None => Err(out_of_range(name)),
+    }
+}
+
+/// The refusal of an argument that couldn't be taken.
+pub(crate) fn refused(name: ArgumentName, fault: TakeFault) -> PayloadFault
+    ensures { result ≡ fault_of name fault }
+{
+    match fault {
+        TakeFault::WrongKind => PayloadFault::Refused(Refusal::WrongKind(name)),
+        TakeFault::OutOfRange => PayloadFault::Refused(Refusal::OutOfRange(name)),
+        TakeFault::NoMemory => PayloadFault::NoMemory,
     }
 }
 
