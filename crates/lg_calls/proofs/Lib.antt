@@ -1,3 +1,5 @@
+pub mod LimitLemmas
+pub mod RangeLemmas
 pub mod ReadingLemmas
 pub mod MethodLemmas
 pub mod CallLemmas

@@ -2,6 +2,7 @@ pub mod ArgumentName
 pub mod Call
 pub mod Method
 pub mod Methods
+pub mod Ranges
 pub mod Reading
 pub mod Refusal
 pub mod Request

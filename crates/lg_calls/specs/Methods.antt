@@ -1,3 +1,4 @@
+pub mod AddTaskBatcher
 pub mod CountPending
 pub mod DisableWorker
 pub mod FetchError
@@ -11,6 +12,8 @@ pub mod Ping
 pub mod ReEnableTask
 pub mod SetTaskProgressPercentage
 pub mod SetTaskStatusMessage
+pub mod TaskList
 pub mod TaskSearch
 pub mod UpdateResource
+pub mod UpdateResources
 pub mod WorkerList

@@ -1,5 +1,7 @@
 //! The arguments of a call, read one after another out of the fields of its payload.
-ghost use Rattle.std.specs.Prelude.{◌≡◌, IfOk, IfSome};
+ghost use Rattle.std.specs.Prelude.{◌≡◌, IfOk, IfSome, IfNone};
+ghost use Rattle.serde_json.specs.Data.{member, no_members};
+ghost use Rattle.serde_json.specs.View.{view};
 ghost use Rattle.lg_base.specs.Names.{AreInOrder};
 ghost use Rattle.lg_json.specs.Fields.{fields_view, text_in, truth_in, int_in, texts_in, pairs_in, amounts_in, items_of};
 ghost use Rattle.lg_calls.specs.Reading.{field, needed, left_in, present_as, taken_as, Reads};
@@ -9,6 +11,7 @@ ghost use Rattle.lg_calls.specs.declared.refusal.PayloadFault.TheVariants.{Refus
 use crate::refusal::{ArgumentName, PayloadFault, Refusal};
 use lg_base::{Amounts, Name, NoMemory, Seq, TaskId, Text};
 use lg_json::{Fields, TakeFault};
+use serde_json::Value;
 use std::alloc::Global;
 
 /// The arguments that aren't read yet. Each call that reads one takes its field out; a field that is null counts as absent.
@@ -109,6 +112,19 @@ impl Arguments {
         ensures { Reads (field amounts_in name.now) self.old self.new result }
     {
         taken(name, self.fields.take_amounts(self.alloc, name))
+    }
+
+    /// The first argument in the order of the names' bytes, null or not, with its name; none where none is left.
+    pub(crate) fn first(&mut self) -> Option<(Name, Value)>
+        ensures first { IfSome result (λ first. left_in self.old ≡ member first.0 (view first.1) (left_in self.new)) }
+        ensures none { IfNone result ((left_in self.old ≡ no_members) × (left_in self.new ≡ no_members)) }
+    {
+        self.fields.take_first()
+    }
+
+    /// Where what is read takes its memory.
+    pub(crate) fn alloc(&self) -> Global {
+        self.alloc
     }
 }
 

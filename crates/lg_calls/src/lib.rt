@@ -8,6 +8,7 @@ mod info;
 pub mod laws;
 mod method;
 mod methods;
+mod ranges;
 mod refusal;
 mod request;
 mod retry_policy;
