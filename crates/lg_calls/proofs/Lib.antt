@@ -1,1 +1,6 @@
+pub mod CallLemmas
+pub mod LimitLemmas
 pub mod LookLemmas
+pub mod MethodLemmas
+pub mod RangeLemmas
+pub mod ReadingLemmas

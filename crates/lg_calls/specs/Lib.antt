@@ -1,10 +1,15 @@
 pub mod ArgumentName
+pub mod Call
 pub mod Engine
 pub mod Look
+pub mod Method
+pub mod Methods
 pub mod Order
 pub mod Outcome
 pub mod Pruning
+pub mod Ranges
 pub mod Reading
+pub mod Refusal
 pub mod Request
 pub mod Settings
 pub mod State
@@ -14,3 +19,4 @@ pub mod TaskView
 pub mod Tasks
 pub mod Valid
 pub mod ValidOnce
+pub mod Words

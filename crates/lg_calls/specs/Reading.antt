@@ -62,7 +62,7 @@ left_in arguments = fields_view arguments.fields
 
 -- The answer of a function that reads arguments is what the reading makes of the fields before, and the fields behind are
 -- those that are left; or the reading's refusal; or memory ran out.
-abbrev pub Reads : {A : Type 0} → Reading A → Arguments → Arguments → Result A PayloadFault → Type 0
+unfoldable pub Reads : {A : Type 0} → Reading A → Arguments → Arguments → Result A PayloadFault → Type 0
 Reads reading before after (Ok x) = reading (left_in before) ≡ Ok (x, left_in after)
 Reads reading before after (Err (Refused refusal)) = reading (left_in before) ≡ Err refusal
 Reads reading before after (Err NoMemory) = Unit {0}

@@ -1,14 +1,17 @@
 //! The arguments of a call, read one after another out of the fields of its payload.
-ghost use Rattle.std.specs.Prelude.{◌≡◌, IfOk, IfSome};
+ghost use Rattle.std.specs.Prelude.{◌≡◌, IfOk, IfSome, IfNone};
+ghost use Rattle.serde_json.specs.Data.{member, no_members};
+ghost use Rattle.serde_json.specs.View.{view};
 ghost use Rattle.lg_base.specs.Names.{AreInOrder};
-ghost use Rattle.lg_json.specs.Fields.{fields_view, text_in, truth_in, int_in, texts_in, pairs_in, amounts_in};
+ghost use Rattle.lg_json.specs.Fields.{fields_view, text_in, truth_in, int_in, texts_in, pairs_in, amounts_in, items_of};
 ghost use Rattle.lg_calls.specs.Reading.{field, needed, left_in, present_as, taken_as, Reads};
 ghost use Rattle.lg_calls.specs.declared.refusal.Refusal.TheVariants.{OutOfRange};
 ghost use Rattle.lg_calls.specs.declared.refusal.PayloadFault.TheVariants.{Refused};
 
 use crate::refusal::{ArgumentName, PayloadFault, Refusal};
-use lg_base::{Amounts, Name, Seq, Text};
+use lg_base::{Amounts, Name, NoMemory, Seq, TaskId, Text};
 use lg_json::{Fields, TakeFault};
+use serde_json::Value;
 use std::alloc::Global;
 
 /// The arguments that aren't read yet. Each call that reads one takes its field out; a field that is null counts as absent.
@@ -65,8 +68,32 @@ impl Arguments {
     pub(crate) fn texts(&mut self, name: &'static str) -> Result<Option<Seq<Text>>, PayloadFault>
         ensures { Reads (field texts_in name.now) self.old self.new result }
     {
-        let texts = taken(name, self.fields.take_texts(self.alloc, name))?;
-        Ok(texts.map(Seq::from_vec))
+        listed(name, self.fields.take_texts(self.alloc, name))
+    }
+
+    /// A list of texts that has to be there.
+    pub(crate) fn needed_texts(&mut self, name: &'static str) -> Result<Seq<Text>, PayloadFault>
+        ensures { Reads (needed texts_in name.now) self.old self.new result }
+    {
+        present(name, self.texts(name)?)
+    }
+
+    /// A list of the ids of tasks that may be absent.
+    pub(crate) fn ids(&mut self, name: &'static str) -> Result<Option<Seq<TaskId>>, PayloadFault>
+        ensures { Reads (field texts_in name.now) self.old self.new result }
+    {
+        let Some(texts) = self.texts(name)? else {
+            return Ok(None);
+        };
+        Ok(Some(ids_of(self.alloc, texts)?))
+    }
+
+    /// A list of names that has to be there.
+    pub(crate) fn needed_names(&mut self, name: &'static str) -> Result<Seq<Name>, PayloadFault>
+        ensures { Reads (needed texts_in name.now) self.old self.new result }
+    {
+        let texts = self.needed_texts(name)?;
+        Ok(names_of(self.alloc, texts)?)
     }
 
     /// An object of texts that may be absent, in the order of the names' bytes.
@@ -77,8 +104,7 @@ impl Arguments {
         ensures read { Reads (field pairs_in name.now) self.old self.new result }
         ensures order { IfOk result (λ pairs. IfSome pairs AreInOrder) }
     {
-        let pairs = taken(name, self.fields.take_pairs(self.alloc, name))?;
-        Ok(pairs.map(Seq::from_vec))
+        listed(name, self.fields.take_pairs(self.alloc, name))
     }
 
     /// An object of amounts that may be absent.
@@ -86,6 +112,19 @@ impl Arguments {
         ensures { Reads (field amounts_in name.now) self.old self.new result }
     {
         taken(name, self.fields.take_amounts(self.alloc, name))
+    }
+
+    /// The first argument in the order of the names' bytes, null or not, with its name; none where none is left.
+    pub(crate) fn first(&mut self) -> Option<(Name, Value)>
+        ensures first { IfSome result (λ first. left_in self.old ≡ member first.0 (view first.1) (left_in self.new)) }
+        ensures none { IfNone result ((left_in self.old ≡ no_members) × (left_in self.new ≡ no_members)) }
+    {
+        self.fields.take_first()
+    }
+
+    /// Where what is read takes its memory.
+    pub(crate) fn alloc(&self) -> Global {
+        self.alloc
     }
 }
 
@@ -103,6 +142,37 @@ fn taken<A>(name: &'static str, field: Result<A, TakeFault>) -> Result<A, Payloa
         ))),
         Err(TakeFault::NoMemory) => Err(PayloadFault::NoMemory),
     }
+}
+
+/// A list as it was taken, or why it wasn't, with its name.
+fn listed<T>(
+    name: &'static str,
+    field: Result<Option<Vec<T>>, TakeFault>,
+) -> Result<Option<Seq<T>>, PayloadFault>
+    ensures { result ≡ taken_as name.now (items_of field) }
+{
+    let list = taken(name, field)?;
+    Ok(list.map(Seq::from_vec))
+}
+
+/// The ids that texts spell, in their order.
+fn ids_of(alloc: Global, texts: Seq<Text>) -> Result<Seq<TaskId>, NoMemory>
+    ensures { IfOk result (λ ids. ids ≡ texts) }
+{
+    let ids = texts
+        .into_vec()
+        .into_iter()
+        .map(TaskId::from)
+        .collect(alloc)?;
+    Ok(Seq::from_vec(ids))
+}
+
+/// The names that texts spell, in their order.
+fn names_of(alloc: Global, texts: Seq<Text>) -> Result<Seq<Name>, NoMemory>
+    ensures { IfOk result (λ names. names ≡ texts) }
+{
+    let names = texts.into_vec().into_iter().map(Name::from).collect(alloc)?;
+    Ok(Seq::from_vec(names))
 }
 
 /// What has to be there.

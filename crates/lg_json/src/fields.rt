@@ -2,7 +2,7 @@ ghost use Rattle.std.specs.Prelude.{◌≡◌, ◌≢◌, ℕ, List, Some, None,
 ghost use Rattle.std.specs.Ordering.{nat_cmp};
 ghost use Rattle.std.specs.declared.cmp.Ordering.TheVariants.{Less};
 ghost use Rattle.std.specs.Cmp.Lexicographic.{slice_cmp};
-ghost use Rattle.serde_json.specs.Data.{no_members};
+ghost use Rattle.serde_json.specs.Data.{member, no_members};
 ghost use Rattle.serde_json.specs.Find.{as_object, get_member};
 ghost use Rattle.serde_json.specs.View.{view};
 ghost use Rattle.lg_base.specs.Names.{AreInOrder};
@@ -196,6 +196,7 @@ impl Fields {
     pub fn take_first(&mut self) -> Option<(Name, Value)>
         ensures first { IfSome result (λ first. get_member first.0 (fields_view self.old) ≡ Some (view first.1)) }
         ensures taken { IfSome result (λ first. IsTakenOut first.0 (fields_view self.old) (fields_view self.new)) }
+        ensures members { IfSome result (λ first. fields_view self.old ≡ member first.0 (view first.1) (fields_view self.new)) }
         ensures least { IfSome result (λ first. (name : List ℕ) → get_member name (fields_view self.new) ≢ None → slice_cmp nat_cmp first.0 name ≡ Less) }
         ensures none { IfNone result ((fields_view self.old ≡ no_members) × (fields_view self.new ≡ no_members)) }
     {

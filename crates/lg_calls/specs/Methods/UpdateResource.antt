@@ -1,0 +1,26 @@
+-- The arguments of `update_resource`. This project's own, after Luigi's RPC.
+use Rattle.std.specs.Prelude.{codes, ℕ, ℤ, pos, negsuc, nat_le, Bool, true}
+use Rattle.lg_json.specs.Fields.{text_in, int_in}
+use Rattle.lg_calls.specs.declared.methods.update_resource.UpdateResource.{UpdateResource}
+use Rattle.lg_calls.specs.Reading.{Reading, ◌>>=◌, needed, ranged, done}
+
+-- the largest amount
+abbrev pub max_amount : ℕ
+max_amount = 4294967295
+
+abbrev pub int_at_most : ℕ → ℤ → Bool
+int_at_most most (pos n) = nat_le n most
+int_at_most most (negsuc n) = true
+
+abbrev pub is_amount : ℤ → Bool
+is_amount = int_at_most max_amount
+
+abbrev pub update_resource : Reading UpdateResource
+update_resource =
+    needed text_in (codes "resource") >>= λ resource.
+    needed int_in (codes "amount") >>= λ asked.
+    ranged (codes "amount") (is_amount asked) asked >>= λ amount.
+    done (record { resource = resource; amount = amount })
+
+abbrev pub update_resource_in_range : UpdateResource → Bool
+update_resource_in_range ask = is_amount ask.amount
