@@ -24,6 +24,16 @@ pub enum StepFault {
     NoMemory,
 }
 
+impl From<NoMemory> for StepFault {
+    ghost use Rattle.lg_calls.specs.declared.engine.StepFault.TheVariants.{NoMemory as out_of_memory};
+
+    ghost from_gives = { λ _ fault. fault ≡ out_of_memory };
+
+    fn from(_: NoMemory) -> StepFault {
+        StepFault::NoMemory
+    }
+}
+
 /// What makes the steps of the scheduler, one after another. It stands for a state, which is valid.
 pub trait Engine: Send + Drop {
     /// The state that it stands for.

@@ -80,7 +80,7 @@ pub enum Refusal {
 impl Refusal {
     /// The refusal in words, as two texts that stand one behind the other: fixed words, and the name of the argument. It takes no
     /// memory.
-    pub fn words(&self) -> (&'static str, &str)
+    pub fn words(&self) -> (&str, &str)
         ensures { result.0.now ++ result.1.now ≡ refusal_text self.now }
     {
         match self {

@@ -90,3 +90,15 @@ pub enum Request {
     /// The workers.
     WorkerList(WorkerList),
 }
+
+impl Request {
+    ghost use Rattle.std.specs.Prelude.{◌≡◌};
+    ghost use Rattle.lg_calls.specs.Request.{is_stop};
+
+    /// Whether the life ends with this call.
+    pub fn is_stop(&self) -> bool
+        ensures { result ≡ is_stop self.now }
+    {
+        matches!(self, Request::Stop)
+    }
+}

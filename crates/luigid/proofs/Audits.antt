@@ -4,8 +4,8 @@ use Rattle.std.proofs.Math.ListN.{set}
 use Rattle.lg_io.specs.Tells.{TellsOn}
 use Rattle.luigid.specs.declared.audit.memory.AuditedLife.{AuditedLife}
 use Rattle.luigid.specs.declared.audit.LifeEnd.{LifeEnd}
-use Rattle.luigid.specs.declared.journal.Entry.{Entry}
-use Rattle.luigid.specs.declared.state.State.{State}
+use Rattle.lg_desk.specs.declared.journal.Entry.{Entry}
+use Rattle.lg_calls.specs.declared.state.State.{State}
 use Rattle.luigid.specs.Audit.{LifeTold, HasOpenLife, EndsLife, ended_with}
 use Rattle.luigid.specs.MemoryAudit.{life_told}
 

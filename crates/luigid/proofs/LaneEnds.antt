@@ -3,10 +3,10 @@ use Rattle.std.proofs.Common.{◌≡◌, ℕ, zero, suc, ◌<◌, true, false, L
 use Rattle.lg_io.specs.Clock.{ClockCall}
 use Rattle.lg_io.specs.Door.{AcceptKind, DoorTold, conn, accepted, handed_by}
 use Rattle.luigid.specs.declared.audit.LifeEnd.{LifeEnd}
-use Rattle.luigid.specs.declared.journal.Entry.{Entry}
-use Rattle.luigid.specs.declared.state.State.{State}
+use Rattle.lg_desk.specs.declared.journal.Entry.{Entry}
+use Rattle.lg_calls.specs.declared.state.State.{State}
 use Rattle.luigid.specs.Headline.{HasLane, HasLast}
-use Rattle.luigid.specs.Journal.{is_over}
+use Rattle.lg_desk.specs.Journal.{is_over}
 use Rattle.luigid.proofs.Lanes.{SoFar}
 
 -- a lane whose journal is over served a link

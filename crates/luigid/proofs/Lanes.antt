@@ -10,16 +10,16 @@ use Rattle.lg_io.specs.Door.{conn, accepted, DoorTold, told_done, done_with, IsF
 use Rattle.lg_io.specs.Link.{LinkTold, fresh_link}
 use Rattle.lg_io.specs.Tells.{TellsOn}
 use Rattle.lg_io.proofs.CallerLemmas.{TellsOn-nothing, TellsOn-append}
-use Rattle.luigid.specs.declared.journal.Entry.{Entry}
-use Rattle.luigid.specs.declared.state.State.{State}
-use Rattle.luigid.specs.Journal.{is_over, GoesOnBy}
+use Rattle.lg_desk.specs.declared.journal.Entry.{Entry}
+use Rattle.lg_calls.specs.declared.state.State.{State}
+use Rattle.lg_desk.specs.Journal.{is_over, GoesOnBy}
 use Rattle.luigid.specs.Lane.{IsLane, NoLinkBehindEnd, entries_of}
-use Rattle.luigid.specs.Replay.{Answered, answered, made_by}
+use Rattle.lg_desk.specs.Replay.{Answered, answered, made_by}
 use Rattle.luigid.specs.Serving.{Serves}
 use Rattle.luigid.specs.Session.{Session, IsServed, calls_of, moments_of}
-use Rattle.luigid.proofs.Journals.{front_of_front, open_front}
+use Rattle.lg_desk.proofs.CallerLemmas.{front_of_front, open_front}
 use Rattle.luigid.proofs.Places.{Each-push, Each-map}
-use Rattle.luigid.proofs.Replays.{entries_answered}
+use Rattle.lg_desk.proofs.CallerLemmas.{entries_answered}
 use Rattle.luigid.proofs.Servings.{all_stay}
 
 -- the connections so far were served, so many; behind the first the door's last answer handed out a link

@@ -1,10 +1,7 @@
 pub mod Calls
 pub mod Payloads
 pub mod Consequences
-pub mod Replays
 pub mod Places
-pub mod Journals
-pub mod Lives
 pub mod Handlings
 pub mod Hearings
 pub mod Servings

@@ -11,13 +11,12 @@ use Rattle.luigid.specs.declared.audit.LifeEnd.{LifeEnd}
 use Rattle.luigid.specs.declared.audit.LifeEnd.TheVariants.{Stop, Full, Closed, Doors, Memory}
 use Rattle.luigid.specs.declared.exit.Exit.{Exit}
 use Rattle.luigid.specs.declared.exit.Exit.TheVariants.{BadWords, CannotListen}
-use Rattle.luigid.specs.declared.journal.Entry.{Entry}
-use Rattle.luigid.specs.declared.state.State.{State}
+use Rattle.lg_desk.specs.declared.journal.Entry.{Entry}
+use Rattle.lg_calls.specs.declared.state.State.{State}
 use Rattle.luigid.specs.Audit.{LifeTold, EndsLife}
-use Rattle.luigid.specs.State.{empty_state}
 use Rattle.luigid.proofs.Audits.{told_whole}
-use Rattle.luigid.specs.Headline.{EndsBy, HasLane, Outside, IsRun, IsLine, IsUntouched, IsServedLife, ServedLife, HasBinding, exit_of, the_bind, unused}
-use Rattle.luigid.specs.Journal.{NoneBehindEnd}
+use Rattle.luigid.specs.Headline.{EndsBy, HasLane, first_state, Outside, IsRun, IsLine, IsUntouched, IsServedLife, ServedLife, HasBinding, exit_of, the_bind, unused}
+use Rattle.lg_desk.specs.Journal.{NoneBehindEnd}
 use Rattle.luigid.specs.Lane.{IsLane}
 
 -- a list of one item
@@ -92,7 +91,7 @@ lane_of_unused base journal end (Some old) now before calls m n was none lane =
 
 -- a life that was told from its beginning to its end was served
 pub served_life : (base : State) (journal handed : List Entry) (end : LifeEnd) (began door : DoorSeen) (before during after : Option (List LifeTold))
-    → base ≡ empty_state → handed ≡ journal
+    → base ≡ first_state → handed ≡ journal
     → TellsOn before during (record { base = base; end = None } ∷ []) → EndsLife handed end during after
     → EndsBy end journal → HasCause began.faults door.faults (end ≡ Doors) → NoneBehindEnd handed → All (λ (e : Entry). e.pass ≡ 0) journal → IsUntouched began → HasLane base 0 end journal began door
     → IsServedLife before after door (record { journal = handed; end = end })

@@ -9,20 +9,20 @@ use Rattle.lg_http.specs.Messages.{WholeMessage, message_bytes, IsMessage}
 use Rattle.lg_io.specs.Clock.{ClockCall, reading}
 use Rattle.lg_io.specs.Tells.{TellsOn}
 use Rattle.lg_io.proofs.CallerLemmas.{TellsOn-nothing, TellsOn-append}
-use Rattle.luigid.specs.declared.journal.Entry.{Entry}
-use Rattle.luigid.specs.declared.state.State.{State}
+use Rattle.lg_desk.specs.declared.journal.Entry.{Entry}
+use Rattle.lg_calls.specs.declared.state.State.{State}
 use Rattle.luigid.specs.Handling.{Handles}
-use Rattle.luigid.specs.Journal.{GoesOnBy}
-use Rattle.luigid.specs.Replay.{Answered, answered, made_by}
+use Rattle.lg_desk.specs.Journal.{GoesOnBy}
+use Rattle.lg_desk.specs.Replay.{Answered, answered, made_by}
 use Rattle.luigid.specs.Session.{Handled, Each, IsAnswered, IsHandled}
-use Rattle.luigid.specs.Transcript.{Answer, replied, refused, no_memory}
-use Rattle.luigid.proofs.Consequences.{over_for_good}
+use Rattle.luigid.specs.Transcript.{Answer, stepped, not_called, no_memory}
+use Rattle.lg_desk.proofs.CallerLemmas.{over_for_good}
 use Rattle.luigid.proofs.Places.{Each-push, Each-map}
 
 -- what an answer says of its message stays where the journal goes on
 answered_stays : (journal more : List Entry) (lane connection nth : ℕ) (h : Handled) (answer : Answer)
     → IsAnswered journal lane connection nth h answer → IsAnswered (journal ++ more) lane connection nth h answer
-answered_stays journal more lane connection nth h (replied tree mark) is = record {
+answered_stays journal more lane connection nth h (stepped outcome mark) is = record {
   now = is.now;
   request = is.request;
   over = is.over;
@@ -32,7 +32,7 @@ answered_stays journal more lane connection nth h (replied tree mark) is = recor
   marked = is.marked;
   only_over = λ marked. over_for_good journal more (is.only_over marked);
 }
-answered_stays journal more lane connection nth h (refused refusal) is = is
+answered_stays journal more lane connection nth h (not_called reason) is = is
 answered_stays journal more lane connection nth h no_memory is = is
 
 -- each of some messages stays handled

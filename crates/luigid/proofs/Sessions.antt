@@ -12,11 +12,11 @@ use Rattle.lg_io.specs.Clock.{ClockCall}
 use Rattle.lg_io.specs.Link.{LinkTold, fresh_link, EndedLink, ended_with, link_faults}
 use Rattle.lg_io.specs.Sink.{WritesAll}
 use Rattle.lg_io.specs.Source.{Received, nothing_received}
-use Rattle.luigid.specs.declared.journal.Entry.{Entry}
-use Rattle.luigid.specs.declared.state.State.{State}
+use Rattle.lg_desk.specs.declared.journal.Entry.{Entry}
+use Rattle.lg_calls.specs.declared.state.State.{State}
 use Rattle.luigid.specs.Handling.{Handles}
 use Rattle.luigid.specs.Hearing.{ends_input, HearsOn}
-use Rattle.luigid.specs.Journal.{GoesOnBy}
+use Rattle.lg_desk.specs.Journal.{GoesOnBy}
 use Rattle.luigid.specs.Serving.{Serves}
 use Rattle.luigid.specs.Session.{Handled, LinkEnd, Session, closed, unwritten, without_memory, bad, is_at_end, GoesOn, EndsLast, HasEnd, IsWhole, IsCutShort}
 use Rattle.luigid.specs.Transcript.{Answer, is_last, response_of, error_response}

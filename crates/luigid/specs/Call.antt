@@ -1,86 +1,65 @@
--- The call that a message makes, or the first refusal that applies. The payload is JSON (RFC 8259).
-use Rattle.std.specs.Prelude.{◌≡◌, ℕ, ◌-◌, ◌^◌, min, length, nat_le, if◌then◌else◌, ℤ, pos, negsuc, List, codes, Option, Some, None, Result, Ok, Err, ok_or, option_and_then}
+-- The call that a message makes, or why it makes none. The payload is JSON (RFC 8259).
+use Rattle.std.specs.Prelude.{◌≡◌, ℕ, ◌-◌, ◌^◌, min, drop, length, if◌then◌else◌, List, codes, nat_eq, Result, Ok, Err}
+use Rattle.std.specs.List.{starts_with}
 use Rattle.std.specs.Str.{bytes_eq}
-use Rattle.serde_json.specs.Data.{Members}
-use Rattle.serde_json.specs.Find.{get_member, as_object}
-use Rattle.serde_json.specs.Read.{read}
-use Rattle.lg_json.specs.declared.fields.TakeFault.{TakeFault}
-use Rattle.lg_json.specs.declared.fields.TakeFault.TheVariants as Take
-use Rattle.lg_json.specs.Fields.{text_in, int_in}
+use Rattle.lg_calls.specs.declared.method.Method.{Method}
+use Rattle.lg_calls.specs.declared.method.MethodFault.{MethodFault}
+use Rattle.lg_calls.specs.declared.method.MethodFault.TheVariants as Fault
+use Rattle.lg_calls.specs.declared.refusal.Refusal.{Refusal}
+use Rattle.lg_calls.specs.declared.request.Request.{Request}
+use Rattle.lg_calls.specs.Call.{request_in}
+use Rattle.lg_calls.specs.Method.{method_asked}
+use Rattle.lg_calls.specs.Request.{IsInRange}
 use Rattle.luigid.specs.declared.call.Asked.{Asked}
-use Rattle.luigid.specs.declared.call.Asked.TheVariants.{Call, Refused}
-use Rattle.luigid.specs.declared.method.Method.{Method}
-use Rattle.luigid.specs.declared.method.Method.TheVariants.{UpdateResource, Stop}
-use Rattle.luigid.specs.declared.refusal.Argument.{Argument}
-use Rattle.luigid.specs.declared.refusal.Argument.TheVariants.{Resource, Amount}
-use Rattle.luigid.specs.declared.refusal.Refusal.{Refusal}
-use Rattle.luigid.specs.declared.refusal.Refusal.TheVariants.{BadVerb, NotJson, Missing, WrongKind, OutOfRange}
-use Rattle.luigid.specs.declared.request.Request.{Request}
-use Rattle.luigid.specs.declared.request.Request.TheVariants as Asking
-use Rattle.luigid.specs.Methods.{method_of}
+use Rattle.luigid.specs.declared.call.Asked.TheVariants.{Call, Nothing}
+use Rattle.luigid.specs.declared.refusal.Misrouted.{Misrouted}
+use Rattle.luigid.specs.declared.refusal.Misrouted.TheVariants.{BadVerb, UnknownPath, UnknownMethod, NotBuilt}
+use Rattle.luigid.specs.declared.refusal.NoCall.{NoCall}
+use Rattle.luigid.specs.declared.refusal.NoCall.TheVariants as NoCall
 use Rattle.luigid.specs.Payload.{path_of, payload_of}
-use Rattle.luigid.specs.Refusal.{refusal_status}
-use Rattle.luigid.specs.Request.{max_amount, IsInRange}
 
--- what is right goes on, and the first refusal stays
-infixl 10 ◌>>=◌
-abbrev pub ◌>>=◌ : {A B : Type 0} → Result A Refusal → (A → Result B Refusal) → Result B Refusal
-(Ok x) >>= f = f x
-(Err refusal) >>= f = Err refusal
+-- a method that isn't found is no way
+abbrev pub misrouted_by : MethodFault → Misrouted
+misrouted_by Fault.UnknownMethod = UnknownMethod
+misrouted_by Fault.NotBuilt = NotBuilt
 
--- an argument that has to be there
-abbrev pub required : {A : Type 0} → Argument → Result (Option A) TakeFault → Result A Refusal
-required argument (Ok (Some x)) = Ok x
-required argument (Ok None) = Err (Missing argument)
-required argument (Err Take.OutOfRange) = Err (OutOfRange argument)
-required argument (Err fault) = Err (WrongKind argument)
+abbrev pub routed : Result Method MethodFault → Result Method Misrouted
+routed (Ok method) = Ok method
+routed (Err fault) = Err (misrouted_by fault)
 
--- an amount is at most the largest one
-abbrev pub within : ℤ → Result ℤ Refusal
-within (pos n) = if nat_le n max_amount then Ok (pos n) else Err (OutOfRange Amount)
-within (negsuc n) = Ok (negsuc n)
-
-abbrev pub resource_in : Members → Result (List ℕ) Refusal
-resource_in members = required Resource (text_in (get_member (codes "resource") members))
-
-abbrev pub amount_in : Members → Result ℤ Refusal
-amount_in members = required Amount (int_in (get_member (codes "amount") members)) >>= within
-
--- the request to set a limit: the resource is read first
-abbrev pub update_of : Members → Result Request Refusal
-update_of members = resource_in members >>= λ resource. amount_in members >>= λ amount. Ok (Asking.UpdateResource resource amount)
-
--- the members of a payload
-abbrev pub members_of : List ℕ → Result Members Refusal
-members_of payload = ok_or (option_and_then as_object (read payload)) NotJson
-
--- the request of a method with these arguments
-abbrev pub request_of : Method → Members → Result Request Refusal
-request_of UpdateResource object = update_of object
-request_of Stop object = Ok Asking.Stop
+-- the method of a path: what stands behind `/api/`, not decoded
+abbrev pub route_of : List ℕ → Result Method Misrouted
+route_of path = if starts_with nat_eq path (codes "/api/") then routed (method_asked (drop 5 path)) else Err UnknownPath
 
 -- the method of a verb and a target: the verb is looked at first
-abbrev pub method_asked : List ℕ → List ℕ → Result Method Refusal
-method_asked verb target = if bytes_eq verb (codes "POST") then method_of (path_of target) else Err BadVerb
+abbrev pub route : List ℕ → List ℕ → Result Method Misrouted
+route verb target = if bytes_eq verb (codes "POST") then route_of (path_of target) else Err BadVerb
 
--- the request of a method with this payload
-abbrev pub called : Method → List ℕ → Result Request Refusal
-called method payload = members_of payload >>= request_of method
+-- the request of a payload, or why the method refuses it
+abbrev pub or_refused : Result Request Refusal → Result Request NoCall
+or_refused (Ok request) = Ok request
+or_refused (Err refusal) = Err (NoCall.Refused refusal)
+
+-- what comes of a payload where this method was found, or none
+abbrev pub call_by : Result Method Misrouted → List ℕ → Result Request NoCall
+call_by (Ok method) payload = or_refused (request_in method payload)
+call_by (Err misrouted) payload = Err (NoCall.Misrouted misrouted)
 
 -- The request of a verb, a target and a body. The payload is looked at last.
-abbrev pub call_of : List ℕ → List ℕ → List ℕ → Result Request Refusal
-call_of verb target body = method_asked verb target >>= λ method. called method (payload_of target body)
+abbrev pub call_of : List ℕ → List ℕ → List ℕ → Result Request NoCall
+call_of verb target body = call_by (route verb target) (payload_of target body)
 
 -- the bytes of a payload, counted by a number of 32 bits
 abbrev pub size_of : List ℕ → List ℕ → ℕ
 size_of target body = min (length (payload_of target body)) (2 ^ 32 - 1)
 
--- what was read of a message is that request, in range, and that size, or that refusal
-abbrev pub Asks : Asked → Result Request Refusal → ℕ → Type 0
+-- what was read of a message is that request, in range, and that size, or that reason
+abbrev pub Asks : Asked → Result Request NoCall → ℕ → Type 0
 Asks (Call request count) call size = (call ≡ Ok request) × (count ≡ size) × IsInRange request
-Asks (Refused refusal) call size = call ≡ Err refusal
+Asks (Nothing reason) call size = call ≡ Err reason
 
--- Memory may be wanted once the verb and the path are right: for a call, or where the payload is at fault.
-abbrev pub MayWantMemory : {A : Type 0} → Result A Refusal → Type 0
-MayWantMemory (Ok x) = Unit {0}
-MayWantMemory (Err refusal) = refusal_status refusal ≡ 400
+-- Memory may be wanted once a method was found: for a call, or where the payload is at fault.
+abbrev pub MayWantMemory : Result Request NoCall → Type 0
+MayWantMemory (Ok request) = Unit {0}
+MayWantMemory (Err (NoCall.Refused refusal)) = Unit {0}
+MayWantMemory (Err (NoCall.Misrouted misrouted)) = ⊥

@@ -4,9 +4,9 @@ use Rattle.std.specs.Option.{option_to_list}
 use Rattle.lg_http.specs.Messages.{WholeMessage}
 use Rattle.lg_io.specs.Clock.{ClockCall, reading}
 use Rattle.lg_io.specs.Tells.{TellsOn}
-use Rattle.luigid.specs.declared.journal.Entry.{Entry}
-use Rattle.luigid.specs.declared.state.State.{State}
-use Rattle.luigid.specs.Replay.{answered, made_by}
+use Rattle.lg_desk.specs.declared.journal.Entry.{Entry}
+use Rattle.lg_calls.specs.declared.state.State.{State}
+use Rattle.lg_desk.specs.Replay.{answered, made_by}
 use Rattle.luigid.specs.Session.{Handled, IsHandled}
 use Rattle.luigid.specs.Transcript.{Answer}
 

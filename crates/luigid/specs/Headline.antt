@@ -8,15 +8,16 @@ use Rattle.lg_io.specs.Sink.{Takes, IsPrefix}
 use Rattle.lg_io.specs.Tells.{TellsOn}
 use Rattle.luigid.specs.declared.audit.LifeEnd.{LifeEnd}
 use Rattle.luigid.specs.declared.audit.LifeEnd.TheVariants.{Stop, Full, Closed, Doors, Memory}
-use Rattle.luigid.specs.declared.journal.Entry.{Entry}
+use Rattle.lg_desk.specs.declared.journal.Entry.{Entry}
 use Rattle.luigid.specs.declared.exit.Exit.{Exit}
 use Rattle.luigid.specs.declared.exit.Exit.TheVariants.{Served, BadWords, CannotListen, DoorsFailed, JournalFull, NoMemory}
 use Rattle.luigid.specs.Audit.{LifeTold}
-use Rattle.luigid.specs.Journal.{has_stop, is_full, is_over, NoneBehindEnd}
+use Rattle.lg_desk.specs.Journal.{has_stop, is_full, is_over, NoneBehindEnd}
 use Rattle.luigid.specs.Lane.{IsLane}
 use Rattle.luigid.specs.Session.{Session}
-use Rattle.luigid.specs.State.{empty_state}
-use Rattle.luigid.specs.declared.state.State.{State}
+use Rattle.lg_calls.specs.Settings.{default_settings}
+use Rattle.lg_calls.specs.State.{empty_state}
+use Rattle.lg_calls.specs.declared.state.State.{State}
 
 -- nobody called the door or its clock
 pub record IsUntouched (seen : DoorSeen) : Type 0 where
@@ -35,6 +36,10 @@ pub record Outside : Type 0 where
   pub bind_faults : ℕ
   pub doors : List DoorSeen
   pub lives : Option (List LifeTold)
+
+-- the state that a life begins with: nothing is known, and nothing is set otherwise than by default
+abbrev pub first_state : State
+first_state = empty_state default_settings
 
 -- the words that are accepted
 abbrev pub IsLine : List (List ℕ) → Type 0
@@ -91,12 +96,12 @@ pub record ServedLife : Type 0 where
 -- door exactly where the door failed, and nothing was entered behind it; the door's one lane entered its calls, and there
 -- are no others; and its connections are served as they are to be.
 pub record IsServedLife (before after : Option (List LifeTold)) (door : DoorSeen) (life : ServedLife) : Type 0 where
-  pub audited : TellsOn before after (record { base = empty_state; end = Some (life.journal, life.end) } ∷ [])
+  pub audited : TellsOn before after (record { base = first_state; end = Some (life.journal, life.end) } ∷ [])
   pub ends : EndsBy life.end life.journal
   pub door_failed : (life.end ≡ Doors) ↔ (0 < door.faults)
   pub none_behind : NoneBehindEnd life.journal
   pub no_other : All (λ e. e.pass ≡ 0) life.journal
-  pub lane : HasLane empty_state 0 life.end life.journal (unused door) door
+  pub lane : HasLane first_state 0 life.end life.journal (unused door) door
 
 -- One life was served, over the one door that was bound; and the program ended as the life did.
 pub record IsOneLife (before after : Outside) (exit : Exit) (life : ServedLife) : Type 0 where

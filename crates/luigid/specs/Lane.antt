@@ -4,10 +4,10 @@ use Rattle.std.specs.List.{flat_map}
 use Rattle.lg_io.specs.Clock.{ClockCall, reading}
 use Rattle.lg_io.specs.Door.{DoorTold}
 use Rattle.lg_io.specs.Tells.{TellsOn}
-use Rattle.luigid.specs.declared.journal.Entry.{Entry}
-use Rattle.luigid.specs.declared.state.State.{State}
-use Rattle.luigid.specs.Journal.{is_over}
-use Rattle.luigid.specs.Replay.{Answered, answered, made_by}
+use Rattle.lg_desk.specs.declared.journal.Entry.{Entry}
+use Rattle.lg_calls.specs.declared.state.State.{State}
+use Rattle.lg_desk.specs.Journal.{is_over}
+use Rattle.lg_desk.specs.Replay.{Answered, answered, made_by}
 use Rattle.luigid.specs.Session.{Session, calls_of, moments_of, Each, IsServed}
 
 -- the entries of some connections

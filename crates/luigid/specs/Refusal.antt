@@ -1,32 +1,29 @@
 -- Why a message makes no call, and what is said of it. This project's own, after Luigi's RPC.
-use Rattle.std.specs.Prelude.{ℕ, List, ◌++◌, codes}
-use Rattle.luigid.specs.declared.refusal.Argument.{Argument}
-use Rattle.luigid.specs.declared.refusal.Argument.TheVariants.{Resource, Amount}
-use Rattle.luigid.specs.declared.refusal.Refusal.{Refusal}
-use Rattle.luigid.specs.declared.refusal.Refusal.TheVariants.{BadVerb, UnknownPath, UnknownMethod, NotBuilt, NotJson, Missing, WrongKind, OutOfRange}
+use Rattle.std.specs.Prelude.{ℕ, List, codes}
+use Rattle.lg_calls.specs.Refusal.{refusal_text}
+use Rattle.luigid.specs.declared.refusal.Misrouted.{Misrouted}
+use Rattle.luigid.specs.declared.refusal.Misrouted.TheVariants.{BadVerb, UnknownPath, UnknownMethod, NotBuilt}
+use Rattle.luigid.specs.declared.refusal.NoCall.{NoCall}
+use Rattle.luigid.specs.declared.refusal.NoCall.TheVariants as NoCall
 
-abbrev pub name_of : Argument → List ℕ
-name_of Resource = codes "resource"
-name_of Amount = codes "amount"
+abbrev pub misrouted_status : Misrouted → ℕ
+misrouted_status BadVerb = 405
+misrouted_status UnknownPath = 404
+misrouted_status UnknownMethod = 404
+misrouted_status NotBuilt = 501
+
+abbrev pub misrouted_text : Misrouted → List ℕ
+misrouted_text BadVerb = codes "bad verb"
+misrouted_text UnknownPath = codes "unknown path"
+misrouted_text UnknownMethod = codes "unknown method"
+misrouted_text NotBuilt = codes "not built"
 
 -- the status of the response
-abbrev pub refusal_status : Refusal → ℕ
-refusal_status BadVerb = 405
-refusal_status UnknownPath = 404
-refusal_status UnknownMethod = 404
-refusal_status NotBuilt = 501
-refusal_status NotJson = 400
-refusal_status (Missing argument) = 400
-refusal_status (WrongKind argument) = 400
-refusal_status (OutOfRange argument) = 400
+abbrev pub no_call_status : NoCall → ℕ
+no_call_status (NoCall.Misrouted misrouted) = misrouted_status misrouted
+no_call_status (NoCall.Refused refusal) = 400
 
 -- what stands under `error`
-abbrev pub refusal_text : Refusal → List ℕ
-refusal_text BadVerb = codes "bad verb"
-refusal_text UnknownPath = codes "unknown path"
-refusal_text UnknownMethod = codes "unknown method"
-refusal_text NotBuilt = codes "not built"
-refusal_text NotJson = codes "bad json"
-refusal_text (Missing argument) = codes "missing " ++ name_of argument
-refusal_text (WrongKind argument) = codes "wrong kind " ++ name_of argument
-refusal_text (OutOfRange argument) = codes "out of range " ++ name_of argument
+abbrev pub no_call_text : NoCall → List ℕ
+no_call_text (NoCall.Misrouted misrouted) = misrouted_text misrouted
+no_call_text (NoCall.Refused refusal) = refusal_text refusal

@@ -3,9 +3,9 @@ use Rattle.std.specs.Prelude.{◌≡◌, ℕ, List, ◌++◌, map, Option, Some}
 use Rattle.lg_io.specs.Clock.{ClockCall, reading}
 use Rattle.lg_io.specs.Link.{LinkTold, ended_link}
 use Rattle.lg_io.specs.Tells.{TellsOn}
-use Rattle.luigid.specs.declared.journal.Entry.{Entry}
-use Rattle.luigid.specs.declared.state.State.{State}
-use Rattle.luigid.specs.Replay.{answered, made_by}
+use Rattle.lg_desk.specs.declared.journal.Entry.{Entry}
+use Rattle.lg_calls.specs.declared.state.State.{State}
+use Rattle.lg_desk.specs.Replay.{answered, made_by}
 use Rattle.luigid.specs.Session.{Session, calls_of, moments_of, IsServed}
 
 -- A connection was served: what its link tells is what the session says, the calls that its pass made meanwhile are the

@@ -3,15 +3,15 @@ use Rattle.std.specs.Prelude.{◌≡◌, ℕ, ◌<◌, ◌≤◌, ◌⊎◌, Boo
 use Rattle.std.specs.List.{concat, flat_map, filter_map}
 use Rattle.lg_io.specs.Link.{EndedLink}
 use Rattle.lg_io.specs.Sink.{IsPrefix}
-use Rattle.lg_json.specs.Tree.{Tree}
 use Rattle.lg_http.specs.Messages.{WholeMessage, message_bytes, IsMessage, IsBad, IsUndecided, WantsMemory}
-use Rattle.luigid.specs.declared.journal.Entry.{Entry}
-use Rattle.luigid.specs.declared.refusal.Refusal.{Refusal}
-use Rattle.luigid.specs.declared.request.Request.{Request}
+use Rattle.lg_desk.specs.declared.journal.Entry.{Entry}
+use Rattle.luigid.specs.declared.refusal.NoCall.{NoCall}
+use Rattle.lg_calls.specs.declared.request.Request.{Request}
+use Rattle.lg_calls.specs.Outcome.{Outcome}
 use Rattle.luigid.specs.Call.{call_of, size_of, MayWantMemory}
-use Rattle.luigid.specs.Journal.{is_over}
-use Rattle.luigid.specs.Replay.{Answered}
-use Rattle.luigid.specs.Transcript.{Answer, replied, refused, no_memory, is_last, response_of, error_response}
+use Rattle.lg_desk.specs.Journal.{is_over}
+use Rattle.lg_desk.specs.Replay.{Answered}
+use Rattle.luigid.specs.Transcript.{Answer, stepped, not_called, no_memory, is_last, response_of, error_response}
 
 -- a message that was answered: its call as the journal has it, if it was entered, and the moments that the clock gave
 -- for it
@@ -43,7 +43,7 @@ abbrev pub moments_of : Session → List ℕ
 moments_of session = flat_map (λ (h : Handled). h.moments) session.handled
 
 -- the request that a message makes, or why it makes none
-abbrev pub asked_by : WholeMessage → Result Request Refusal
+abbrev pub asked_by : WholeMessage → Result Request NoCall
 asked_by m = call_of m.head.method m.head.target m.body
 
 -- the entry of a message that makes that request, at that moment
@@ -55,28 +55,28 @@ entry_of lane connection nth m request now = record {
   request = request;
 }
 
--- A received call: it was entered with the one moment that the clock gave for it, and its reply is the one-thread
--- scheduler's. The mark is set where the journal was over right behind it, and only where it is over.
-pub record IsReplied (journal : List Entry) (lane connection nth : ℕ) (h : Handled) (tree : Tree) (mark : Bool) : Type 0 where
+-- A received call: it was entered with the one moment that the clock gave for it, and what its step came to is what the
+-- one-thread scheduler's does. The mark is set where the journal was over right behind it, and only where it is over.
+pub record IsStepped (journal : List Entry) (lane connection nth : ℕ) (h : Handled) (outcome : Outcome) (mark : Bool) : Type 0 where
   pub now : ℕ
   pub request : Request
   pub over : Bool
   pub is_call : asked_by h.message ≡ Ok request
-  pub entered : h.call ≡ Some (record { entry = entry_of lane connection nth h.message request now; reply = tree; over = over })
+  pub entered : h.call ≡ Some (record { entry = entry_of lane connection nth h.message request now; outcome = outcome; over = over })
   pub read_once : h.moments ≡ now ∷ []
   pub marked : over ≡ true → mark ≡ true
   pub only_over : mark ≡ true → is_over journal ≡ true
 
 -- a message that makes no call, for this reason: nothing is entered, and the clock isn't read
-pub record IsRefused (h : Handled) (refusal : Refusal) : Type 0 where
-  pub reason : asked_by h.message ≡ Err refusal
+pub record IsNotCalled (h : Handled) (reason : NoCall) : Type 0 where
+  pub is_reason : asked_by h.message ≡ Err reason
   pub not_entered : h.call ≡ None
   pub not_read : h.moments ≡ []
 
 -- the clock is read at most once for a call, and never for what makes none
-abbrev pub ReadsFor : Result Request Refusal → List ℕ → Type 0
+abbrev pub ReadsFor : Result Request NoCall → List ℕ → Type 0
 ReadsFor (Ok request) moments = length moments ≤ 1
-ReadsFor (Err refusal) moments = moments ≡ []
+ReadsFor (Err reason) moments = moments ≡ []
 
 -- memory ran out in reading the payload, or in the call: nothing is entered
 pub record IsWithoutMemory (h : Handled) : Type 0 where
@@ -86,8 +86,8 @@ pub record IsWithoutMemory (h : Handled) : Type 0 where
 
 -- what each answer says of its message
 abbrev pub IsAnswered : List Entry → ℕ → ℕ → ℕ → Handled → Answer → Type 0
-IsAnswered journal lane connection nth h (replied tree mark) = IsReplied journal lane connection nth h tree mark
-IsAnswered journal lane connection nth h (refused refusal) = IsRefused h refusal
+IsAnswered journal lane connection nth h (stepped outcome mark) = IsStepped journal lane connection nth h outcome mark
+IsAnswered journal lane connection nth h (not_called reason) = IsNotCalled h reason
 IsAnswered journal lane connection nth h no_memory = IsWithoutMemory h
 
 -- the nth message of a connection was answered as it is to be

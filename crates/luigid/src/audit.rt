@@ -3,15 +3,15 @@ ghost use Rattle.std.specs.Prelude.{◌≡◌, List, [], ◌∷◌, Option, None
 ghost use Rattle.lg_io.specs.Rest.{Rest};
 ghost use Rattle.lg_io.specs.Tells.{TellsOn};
 ghost use Rattle.luigid.specs.Audit.{LifeTold, HasOpenLife, EndsLife};
-ghost use Rattle.luigid.specs.GoodEntry.{IsGoodEntry};
-ghost use Rattle.luigid.specs.State.{IsValidState};
+ghost use Rattle.lg_desk.specs.GoodEntry.{IsGoodEntry};
+ghost use Rattle.lg_calls.specs.Valid.{IsValidState};
 
 mod lines;
 mod memory;
 
-use crate::journal::Journal;
-use crate::state::State;
 use lg_base::NoMemory;
+use lg_calls::State;
+use lg_desk::Journal;
 pub use lines::LineAudit;
 pub use memory::{AuditedLife, MemoryAudit};
 use std::alloc::Global;

@@ -1,16 +1,15 @@
 //! One connection: its messages, answered one after another.
 ghost use Rattle.std.specs.Prelude.{◌≡◌, false};
 ghost use Rattle.lg_io.specs.Link.{LinkTold, fresh_link};
-ghost use Rattle.luigid.specs.declared.state.State.{State};
-ghost use Rattle.luigid.specs.Journal.{is_over, GoesOnBy};
-ghost use Rattle.luigid.specs.Replay.{replay};
-ghost use Rattle.luigid.specs.Said.{AreTexts};
+ghost use Rattle.lg_calls.specs.declared.state.State.{State};
+ghost use Rattle.lg_desk.specs.Journal.{is_over, GoesOnBy};
+ghost use Rattle.lg_desk.specs.Replay.{replay};
 ghost use Rattle.luigid.specs.Serving.{Serves};
 
 use crate::handle::{Place, handle};
 use crate::hearing::{hear, speak, speak_bad_message};
 use crate::life::Life;
-use crate::texts::Texts;
+use lg_calls::Engine;
 use lg_http::{Next, Reader};
 use lg_io::{Clock, Link};
 use std::alloc::Global;
@@ -18,19 +17,17 @@ use std::sync::Wait;
 
 /// Serves a link to its end, in a life that isn't over: each message is answered in order, until a last response, the end
 /// of the input, a fault, or want of memory. It may wait forever.
-pub fn serve_connection<R: Wait, L: Link, K: Clock>(
+pub fn serve_connection<R: Wait, E: Engine, L: Link, K: Clock>(
     rt: &R,
     alloc: Global,
-    life: &mut Life,
-    texts: &Texts,
+    life: &mut Life<E>,
     lane: u16,
     connection: u64,
     link: &mut L,
     clock: &mut K,
 )
-    requires not_over { is_over life.old.journal ≡ false }
-    requires texts { AreTexts texts.now }
-    ensures serves { (base : State) → life.old.state ≡ replay base life.old.journal
+    requires { is_over life.old.journal ≡ false }
+    ensures serves { (base : State) → E.state life.old.engine ≡ replay base life.old.journal
         → record {
           received = L.received link.old;
           taken = L.taken link.old;
@@ -44,7 +41,7 @@ pub fn serve_connection<R: Wait, L: Link, K: Clock>(
           write_faults = L.Sink.faults link.new;
         } }
     ensures goes_on { GoesOnBy lane life.old.journal life.new.journal }
-    ensures replayed { (base : State) → life.old.state ≡ replay base life.old.journal → life.new.state ≡ replay base life.new.journal }
+    ensures replayed { (base : State) → E.state life.old.engine ≡ replay base life.old.journal → E.state life.new.engine ≡ replay base life.new.journal }
     ensures rest { K.rest clock.new ≡ K.rest clock.old }
 {
     let Ok(mut reader) = Reader::make(alloc) else {
@@ -59,7 +56,7 @@ pub fn serve_connection<R: Wait, L: Link, K: Clock>(
                     nth,
                 };
                 let said = handle(alloc, life, place, &message, clock);
-                if speak(&said, texts, link).is_err() {
+                if speak(&said, link).is_err() {
                     return;
                 }
                 if said.is_last() {
@@ -67,7 +64,7 @@ pub fn serve_connection<R: Wait, L: Link, K: Clock>(
                 }
             }
             Next::Bad(status) => {
-                let _ = speak_bad_message(status, texts, link);
+                let _ = speak_bad_message(status, link);
                 return;
             }
             Next::End => return,

@@ -4,17 +4,17 @@ ghost use Rattle.lg_io.specs.Cause.{HasCause};
 ghost use Rattle.lg_io.specs.DoorSeen.{DoorSeen};
 ghost use Rattle.lg_io.specs.Tells.{TellsOn};
 ghost use Rattle.luigid.specs.declared.exit.Exit.{Exit};
-ghost use Rattle.luigid.specs.declared.journal.Entry.{Entry};
+ghost use Rattle.lg_desk.specs.declared.journal.Entry.{Entry};
+ghost use Rattle.lg_calls.specs.Valid.{IsValidState};
 ghost use Rattle.luigid.specs.Headline.{IsUntouched, IsRun, IsServedLife, Says, IsLine, the_bind, status_of, line_of};
-ghost use Rattle.luigid.specs.Said.{AreTexts};
 
 use crate::audit::{Audit, LifeEnd};
 use crate::exit::Exit;
 use crate::lane::serve_lane;
 use crate::life::Life;
-use crate::state::State;
-use crate::texts::Texts;
+use crate::limits::Limits;
 use lg_base::{NoMemory, Text};
+use lg_calls::{Engine, Settings, State};
 use lg_io::{BindFault, Door, Files, Net, Numbers, Sink};
 use std::alloc::Global;
 use std::mem;
@@ -97,23 +97,18 @@ fn run<R: Wait, N: Net, U: Audit>(
     if !is_line(words) {
         return Exit::BadWords;
     }
-    match Texts::make(alloc) {
-        Ok(texts) => serve(rt, alloc, &texts, net, doors, audit),
-        Err(NoMemory) => Exit::NoMemory,
-    }
+    serve(rt, alloc, net, doors, audit)
 }
 
 /// Binds the door and serves one life, once the words are right.
 fn serve<R: Wait, N: Net, U: Audit>(
     rt: &R,
     alloc: Global,
-    texts: &Texts,
     net: &mut N,
     doors: &mut Vec<N::Door>,
     audit: &mut U,
 ) -> Exit
-    requires empty { doors.old.items ≡ [] }
-    requires texts { AreTexts texts.now }
+    requires { doors.old.items ≡ [] }
     ensures rest { U.rest audit.new ≡ U.rest audit.old }
     ensures run { (words : List (List ℕ)) → IsLine words → IsRun words
         record {
@@ -131,7 +126,7 @@ fn serve<R: Wait, N: Net, U: Audit>(
         result }
 {
     match listen(alloc, net, doors) {
-        Ok(()) => match serve_life(rt, alloc, texts, &mut doors[0], audit) {
+        Ok(()) => match serve_life::<R, Limits, N::Door, U>(rt, alloc, &mut doors[0], audit) {
             Ok(end) => Exit::from(end),
             Err(NoMemory) => Exit::NoMemory,
         },
@@ -168,24 +163,34 @@ fn listen<N: Net>(alloc: Global, net: &mut N, doors: &mut Vec<N::Door>) -> Resul
 }
 
 /// Serves one life over a door, and tells the audit of it. At an error no life began.
-fn serve_life<R: Wait, D: Door, U: Audit>(
+fn serve_life<R: Wait, E: Engine, D: Door, U: Audit>(
     rt: &R,
     alloc: Global,
-    texts: &Texts,
     door: &mut D,
     audit: &mut U,
 ) -> Result<LifeEnd, NoMemory>
-    requires texts { AreTexts texts.now }
-    requires untouched { IsUntouched record { door = D.door door.old; faults = D.faults door.old; calls = D.calls door.old } }
+    requires { IsUntouched record { door = D.door door.old; faults = D.faults door.old; calls = D.calls door.old } }
     ensures ok { IfOk result (λ end. (journal : List Entry) × IsServedLife (U.lives audit.old) (U.lives audit.new)
         record { door = D.door door.new; faults = D.faults door.new; calls = D.calls door.new } record { journal = journal; end = end }) }
     ensures err { OnErr result ((U.lives audit.new ≡ U.lives audit.old) × (door.new ≡ door.old)) }
     ensures rest { U.rest audit.new ≡ U.rest audit.old }
 {
-    let base = State::empty(alloc);
+    let base = State::empty(alloc, Settings::new());
+    let engine: E = started(alloc, base.copy()?)?;
     audit.begins(alloc, &base)?;
-    let mut life = Life::begin(alloc, base);
-    let end = serve_lane(rt, alloc, &mut life, texts, 0, door);
+    let mut life = Life::begin(alloc, engine);
+    let end = serve_lane(rt, alloc, &mut life, 0, door);
     audit.ends(life.into_journal(), end);
     Ok(end)
+}
+
+/// An engine that begins with this state.
+fn started<E: Engine>(alloc: Global, base: State) -> Result<E, NoMemory>
+    requires { IsValidState base }
+    ensures { IfOk result (λ engine. E.state engine ≡ base) }
+{
+    match E::start(alloc, base) {
+        Ok(engine) => Ok(engine),
+        Err((_, fault)) => Err(fault),
+    }
 }

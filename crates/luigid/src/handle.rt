@@ -2,18 +2,19 @@
 ghost use Rattle.std.specs.Prelude.{◌≡◌, false};
 ghost use Rattle.lg_http.specs.Answers.{Shows};
 ghost use Rattle.lg_http.specs.Messages.{WholeMessage};
-ghost use Rattle.luigid.specs.declared.state.State.{State};
+ghost use Rattle.lg_calls.specs.declared.state.State.{State};
 ghost use Rattle.luigid.specs.Handling.{Handles};
-ghost use Rattle.luigid.specs.Journal.{is_over, GoesOnBy};
-ghost use Rattle.luigid.specs.Replay.{replay};
+ghost use Rattle.lg_desk.specs.Journal.{is_over, GoesOnBy};
+ghost use Rattle.lg_desk.specs.Replay.{replay};
 ghost use Rattle.luigid.specs.Said.{answer_of};
 ghost use Rattle.luigid.specs.Transcript.{is_last};
 
 use crate::call::{Asked, read_call};
-use crate::journal::{CallName, Entry};
 use crate::life::Life;
 use crate::said::Said;
 use lg_base::NoMemory;
+use lg_calls::{Engine, StepFault};
+use lg_desk::{CallName, Entry};
 use lg_http::Message;
 use lg_io::Clock;
 use std::alloc::Global;
@@ -29,25 +30,25 @@ pub struct Place {
 
 /// Handles a message, in a life that isn't over. The clock is read once, right before the call is entered, and for nothing
 /// else.
-pub fn handle<K: Clock>(
+pub fn handle<E: Engine, K: Clock>(
     alloc: Global,
-    life: &mut Life,
+    life: &mut Life<E>,
     place: Place,
     message: &Message,
     clock: &mut K,
 ) -> Said
     requires { is_over life.old.journal ≡ false }
-    ensures handles { (base : State) (arrived : WholeMessage) → life.old.state ≡ replay base life.old.journal → Shows message.now arrived
+    ensures handles { (base : State) (arrived : WholeMessage) → E.state life.old.engine ≡ replay base life.old.journal → Shows message.now arrived
         → Handles base place.lane place.connection place.nth arrived (answer_of result) life.old.journal life.new.journal
         (K.calls clock.old) (K.calls clock.new) }
-    ensures replayed { (base : State) → life.old.state ≡ replay base life.old.journal → life.new.state ≡ replay base life.new.journal }
+    ensures replayed { (base : State) → E.state life.old.engine ≡ replay base life.old.journal → E.state life.new.engine ≡ replay base life.new.journal }
     ensures goes_on { GoesOnBy place.lane life.old.journal life.new.journal }
     ensures not_over { is_last (answer_of result) ≡ false → is_over life.new.journal ≡ false }
     ensures rest { K.rest clock.new ≡ K.rest clock.old }
 {
     let (request, size) = match read_call(alloc, message) {
         Ok(Asked::Call(request, size)) => (request, size),
-        Ok(Asked::Refused(refusal)) => return Said::Refused(refusal),
+        Ok(Asked::Nothing(reason)) => return Said::NotCalled(reason),
         Err(NoMemory) => return Said::NoMemory,
     };
     let now = clock.now();
@@ -62,8 +63,9 @@ pub fn handle<K: Clock>(
         now,
         request,
     };
-    match life.call(entry) {
+    match life.call(alloc, entry) {
         Ok(reply) => Said::Replied(reply, life.is_over()),
-        Err(NoMemory) => Said::NoMemory,
+        Err(StepFault::Full(tasks)) => Said::Full(tasks, life.is_over()),
+        Err(StepFault::NoMemory) => Said::NoMemory,
     }
 }

@@ -6,13 +6,12 @@ ghost use Rattle.lg_http.specs.Response.{IsStatus};
 ghost use Rattle.lg_io.specs.Cause.{HasCause};
 ghost use Rattle.lg_io.specs.Sink.{WritesAll};
 ghost use Rattle.luigid.specs.Hearing.{HearsOn};
-ghost use Rattle.luigid.specs.Said.{answer_of, AreTexts};
+ghost use Rattle.luigid.specs.Said.{answer_of};
 ghost use Rattle.luigid.specs.Transcript.{response_of, error_response};
 
 use crate::said::Said;
-use crate::texts::Texts;
 use lg_base::Failed as WriteFailed;
-use lg_http::{Next, Reader, respond};
+use lg_http::{Next, Reader, respond_error};
 use lg_io::Link;
 use std::alloc::Global;
 use std::sync::Wait;
@@ -38,28 +37,22 @@ pub fn hear<R: Wait, L: Link>(rt: &R, alloc: Global, reader: &mut Reader, link: 
 }
 
 /// Writes a response to a link.
-pub fn speak<L: Link>(said: &Said, texts: &Texts, link: &mut L) -> Result<(), WriteFailed>
-    requires { AreTexts texts.now }
+pub fn speak<L: Link>(said: &Said, link: &mut L) -> Result<(), WriteFailed>
     ensures told { WritesAll (L.taken link.old) (L.taken link.new) (response_of (answer_of said.now)) result }
     ensures cause { HasCause (L.Sink.faults link.old) (L.Sink.faults link.new) (IsErr result) }
     ensures received { L.received link.new ≡ L.received link.old }
     ensures read { L.Source.faults link.new ≡ L.Source.faults link.old }
 {
-    said.say(texts, link)
+    said.say(link)
 }
 
 /// Writes to a link, with this status, that what stands in a message's place is none.
-pub fn speak_bad_message<L: Link>(
-    status: u16,
-    texts: &Texts,
-    link: &mut L,
-) -> Result<(), WriteFailed>
-    requires status { IsStatus status }
-    requires texts { AreTexts texts.now }
+pub fn speak_bad_message<L: Link>(status: u16, link: &mut L) -> Result<(), WriteFailed>
+    requires { IsStatus status }
     ensures told { WritesAll (L.taken link.old) (L.taken link.new) (error_response status) result }
     ensures cause { HasCause (L.Sink.faults link.old) (L.Sink.faults link.new) (IsErr result) }
     ensures received { L.received link.new ≡ L.received link.old }
     ensures read { L.Source.faults link.new ≡ L.Source.faults link.old }
 {
-    respond(link, status, texts.bad_message(), true)
+    respond_error(link, status, &["bad message"], true)
 }

@@ -7,30 +7,27 @@ ghost use Rattle.lg_io.specs.DoorSeen.{DoorSeen};
 ghost use Rattle.lg_io.specs.Link.{LinkTold};
 ghost use Rattle.luigid.specs.declared.audit.LifeEnd.TheVariants.{Doors};
 ghost use Rattle.luigid.specs.Headline.{EndsBy, HasLane};
-ghost use Rattle.luigid.specs.Said.{AreTexts};
 
 use crate::audit::LifeEnd;
 use crate::connection::serve_connection;
 use crate::life::Life;
-use crate::texts::Texts;
+use lg_calls::Engine;
 use lg_io::{Accept, Door};
 use std::alloc::Global;
 use std::sync::Wait;
 
 /// Serves the links of a door, one after another, in a life that begins, until it is over, or the door closes, fails or
 /// finds no memory. The door may have served others before. It may wait forever.
-pub fn serve_lane<R: Wait, D: Door>(
+pub fn serve_lane<R: Wait, E: Engine, D: Door>(
     rt: &R,
     alloc: Global,
-    life: &mut Life,
-    texts: &Texts,
+    life: &mut Life<E>,
     lane: u16,
     door: &mut D,
 ) -> LifeEnd
     requires begun { life.old.journal ≡ [] }
     requires all_back { HasNoLinkOut (D.door door.old) }
-    requires texts { AreTexts texts.now }
-    ensures served { HasLane life.old.state lane result life.new.journal
+    ensures served { HasLane (E.state life.old.engine) lane result life.new.journal
         record { door = D.door door.old; faults = D.faults door.old; calls = D.calls door.old }
         record { door = D.door door.new; faults = D.faults door.new; calls = D.calls door.new } }
     ensures ends { EndsBy result life.new.journal }
@@ -46,7 +43,7 @@ pub fn serve_lane<R: Wait, D: Door>(
         }
         match next_link(rt, alloc, door) {
             Accept::Conn(mut link) => {
-                serve_connection(rt, alloc, life, texts, lane, connection, &mut link, door);
+                serve_connection(rt, alloc, life, lane, connection, &mut link, door);
                 door.done(link);
             }
             Accept::Closed => return LifeEnd::Closed,

@@ -1,17 +1,14 @@
-//! A life: a state, and the journal of the calls that moved it on.
-ghost use Rattle.std.specs.Prelude.{◌≡◌, ◌^◌, ◌-◌, ◌<◌, min, false, [], ◌∷◌, ◌++◌, All, IfOk, OnOk, OnErr};
+//! A life: an engine, and the journal of the calls that moved it on.
+ghost use Rattle.std.specs.Prelude.{◌≡◌, ◌^◌, ◌-◌, ◌<◌, min, false, [], All};
 ghost use Rattle.std.proofs.Props.{props};
-ghost use Rattle.lg_json.specs.Tree.{tree_of};
-ghost use Rattle.luigid.specs.GoodEntry.{IsGoodEntry, good_entries-prop};
-ghost use Rattle.luigid.specs.Request.{IsInRange};
-ghost use Rattle.luigid.specs.Journal.{has_stop, is_over, payload_bytes, NoneBehindEnd};
-ghost use Rattle.luigid.specs.State.{IsValidState};
-ghost use Rattle.luigid.specs.Step.{step};
+ghost use Rattle.lg_calls.specs.Engine.{Steps};
+ghost use Rattle.lg_calls.specs.Request.{IsInRange};
+ghost use Rattle.lg_desk.specs.GoodEntry.{IsGoodEntry, good_entries-prop};
+ghost use Rattle.lg_desk.specs.Journal.{has_stop, is_over, payload_bytes, NoneBehindEnd};
+ghost use Rattle.luigid.specs.Entering.{Enters};
 
-use crate::journal::{Entry, Journal};
-use crate::state::State;
-use crate::step::{Reply, make_step};
-use lg_base::NoMemory;
+use lg_calls::{Engine, Reply, StepFault};
+use lg_desk::{Entry, Journal};
 use std::alloc::Global;
 
 /// The most entries of a journal.
@@ -22,31 +19,29 @@ const MAX_BYTES: u64 = 268_435_456;
 
 /// The scheduler of one thread, with its journal.
 #[derive(Drop)]
-pub struct Life {
-    /// The state behind the last entry.
-    state: State,
+pub struct Life<E> {
+    /// What makes the steps; it stands for the state behind the last entry.
+    engine: E,
     /// The calls, in order.
     journal: Journal,
     /// Whether the journal holds a `stop`.
     stopped: bool,
     /// The bytes of the payloads in sum; 2^64 - 1 where there are more.
     bytes: u64,
-    pub ghost is_valid: { IsValidState state } by { Prim.hlevel props },
     pub ghost is_good: { All IsGoodEntry journal } by { good_entries-prop journal },
     pub ghost is_open: { NoneBehindEnd journal } by { Prim.hlevel props },
     pub ghost is_marked: { stopped ≡ has_stop journal },
     pub ghost is_counted: { bytes ≡ min (payload_bytes journal) (2 ^ 64 - 1) },
 }
 
-impl Life {
-    /// A life that begins with this state.
-    pub fn begin(alloc: Global, base: State) -> Life
-        requires { IsValidState base }
-        ensures state { result.state ≡ base }
+impl<E: Engine> Life<E> {
+    /// A life that begins with this engine.
+    pub fn begin(alloc: Global, engine: E) -> Life<E>
+        ensures engine { result.engine ≡ engine }
         ensures journal { result.journal ≡ [] }
     {
         Life {
-            state: base,
+            engine,
             journal: Journal::new(alloc),
             stopped: false,
             bytes: 0,
@@ -74,7 +69,7 @@ impl Life {
         ensures none_behind { NoneBehindEnd result }
     {
         let Life {
-            state: _,
+            engine: _,
             journal,
             stopped: _,
             bytes: _,
@@ -82,34 +77,32 @@ impl Life {
         journal
     }
 
-    /// Enters a call, and makes its step. Where memory runs out nothing is entered, and the state is as before.
-    pub fn call(&mut self, entry: Entry) -> Result<Reply, NoMemory>
+    /// Enters a call, and makes its step. A call that finds the scheduler full is entered too, and the state is as before.
+    /// Where memory runs out nothing is entered, and the state is as before.
+    pub fn call(&mut self, alloc: Global, entry: Entry) -> Result<Reply, StepFault>
         requires in_time { entry.now.0 < 2 ^ 62 }
         requires in_range { IsInRange entry.request }
         requires not_over { is_over self.old.journal ≡ false }
-        ensures entered { OnOk result (self.new.journal ≡ self.old.journal ++ entry ∷ []) }
-        ensures state { OnOk result (self.new.state ≡ (step self.old.state entry.now.0 entry.request).0) }
-        ensures reply { IfOk result (λ reply. tree_of reply.0 ≡ (step self.old.state entry.now.0 entry.request).1) }
-        ensures err { OnErr result ((self.new.journal ≡ self.old.journal) × (self.new.state ≡ self.old.state)) }
+        ensures entered { Enters self.old.journal entry self.new.journal result }
+        ensures stepped { Steps (E.state self.old.engine) entry.now.0 entry.request (E.state self.new.engine) result }
     {
         let now = entry.now;
         let stops = entry.request.is_stop();
         let size = u64::from(entry.who.size);
         self.journal.enter(entry)?;
         let newest = self.journal.len() - 1;
-        match make_step(
-            &mut self.state,
-            now,
-            &self.journal.entries()[newest].request,
-        ) {
-            Ok(reply) => {
+        match self
+            .engine
+            .step(alloc, now, &self.journal.entries()[newest].request)
+        {
+            Err(StepFault::NoMemory) => {
+                self.journal.withdraw();
+                Err(StepFault::NoMemory)
+            }
+            outcome => {
                 self.stopped = self.stopped || stops;
                 self.bytes = self.bytes.saturating_add(size);
-                Ok(reply)
-            }
-            Err(NoMemory) => {
-                self.journal.withdraw();
-                Err(NoMemory)
+                outcome
             }
         }
     }

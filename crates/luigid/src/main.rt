@@ -8,20 +8,15 @@ pub mod daemon;
 pub mod exit;
 pub mod handle;
 pub mod hearing;
-pub mod journal;
 pub mod lane;
 pub mod laws;
 pub mod life;
-pub mod method;
+pub mod limits;
 pub mod payload;
 pub mod refusal;
-pub mod request;
 pub mod said;
-pub mod state;
-pub mod step;
 #[cfg(test)]
 mod tests;
-pub mod texts;
 
 use audit::LineAudit;
 use daemon::luigid;

@@ -1,16 +1,11 @@
 //! Why a message makes no call.
 ghost use Rattle.std.specs.Prelude.{◌≡◌};
 
-/// An argument of a call.
-#[derive(Clone, Copy, Debug, PartialEq, Eq)]
-pub enum Argument {
-    Resource,
-    Amount,
-}
+use lg_calls::{MethodFault, Refusal};
 
-/// Why a message makes no call: the first of these that applies. The connection stays.
+/// Why a message reaches no method: the first of these that applies. Its payload isn't looked at.
 #[derive(Clone, Copy, Debug, PartialEq, Eq)]
-pub enum Refusal {
+pub enum Misrouted {
     /// The verb isn't POST.
     BadVerb,
     /// The path doesn't begin with `/api/`.
@@ -19,45 +14,53 @@ pub enum Refusal {
     UnknownMethod,
     /// The method isn't built yet.
     NotBuilt,
-    /// The payload is no JSON object.
-    NotJson,
-    /// The argument is absent or null.
-    Missing(Argument),
-    /// The argument is of another kind.
-    WrongKind(Argument),
-    /// The argument is a whole number that is too large.
-    OutOfRange(Argument),
 }
 
-impl Argument {
-    ghost use Rattle.luigid.specs.Refusal.{name_of};
+/// Why a message makes no call. The connection stays.
+#[derive(Debug, Drop)]
+pub enum NoCall {
+    /// It reaches no method.
+    Misrouted(Misrouted),
+    /// It reaches a method, which refuses its payload.
+    Refused(Refusal),
+}
 
-    /// Its name.
-    pub fn name(self) -> &'static str
-        ensures { result.now ≡ name_of self }
+impl Misrouted {
+    ghost use Rattle.luigid.specs.Refusal.{misrouted_status, misrouted_text};
+
+    /// The status of the response.
+    pub fn status(self) -> u16
+        ensures { result ≡ misrouted_status self }
     {
         match self {
-            Argument::Resource => "resource",
-            Argument::Amount => "amount",
+            Misrouted::BadVerb => 405,
+            Misrouted::UnknownPath | Misrouted::UnknownMethod => 404,
+            Misrouted::NotBuilt => 501,
+        }
+    }
+
+    /// What stands under `error`.
+    pub fn text(self) -> &'static str
+        ensures { result.now ≡ misrouted_text self }
+    {
+        match self {
+            Misrouted::BadVerb => "bad verb",
+            Misrouted::UnknownPath => "unknown path",
+            Misrouted::UnknownMethod => "unknown method",
+            Misrouted::NotBuilt => "not built",
         }
     }
 }
 
-impl Refusal {
-    ghost use Rattle.luigid.specs.Refusal.{refusal_status};
+impl From<MethodFault> for Misrouted {
+    ghost use Rattle.luigid.specs.Call.{misrouted_by};
 
-    /// The status of the response.
-    pub fn status(self) -> u16
-        ensures { result ≡ refusal_status self }
-    {
-        match self {
-            Refusal::BadVerb => 405,
-            Refusal::UnknownPath | Refusal::UnknownMethod => 404,
-            Refusal::NotBuilt => 501,
-            Refusal::NotJson
-            | Refusal::Missing(_)
-            | Refusal::WrongKind(_)
-            | Refusal::OutOfRange(_) => 400,
+    ghost from_gives = { λ fault misrouted. misrouted ≡ misrouted_by fault };
+
+    fn from(fault: MethodFault) -> Misrouted {
+        match fault {
+            MethodFault::UnknownMethod => Misrouted::UnknownMethod,
+            MethodFault::NotBuilt => Misrouted::NotBuilt,
         }
     }
 }

@@ -5,10 +5,10 @@ ghost use Rattle.luigid.specs.Audit.{life_line, end_of_line};
 ghost use Rattle.luigid.specs.Headline.{Says};
 
 use super::{Audit, LifeEnd};
-use crate::journal::Journal;
-use crate::state::State;
 use itoa::Buffer;
 use lg_base::{Failed, NoMemory};
+use lg_calls::State;
+use lg_desk::Journal;
 use lg_io::{Sink, write_all};
 use std::alloc::Global;
 

@@ -3,9 +3,9 @@ ghost use Rattle.lg_io.specs.Tells.{TellsOn};
 ghost use Rattle.luigid.specs.Audit.{LifeTold};
 
 use super::{Audit, LifeEnd};
-use crate::journal::Journal;
-use crate::state::State;
 use lg_base::NoMemory;
+use lg_calls::State;
+use lg_desk::Journal;
 use std::alloc::Global;
 
 /// A life that an audit was told of.

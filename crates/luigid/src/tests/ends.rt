@@ -1,9 +1,9 @@
 //! How the daemon ends, and what it tells.
 use super::{PLAIN, Script, TWO_CALLS, run_of, status_of};
 use crate::audit::{Audit, LifeEnd, LineAudit};
-use crate::journal::Journal;
-use crate::state::State;
 use lg_base::{NoMemory, Text};
+use lg_calls::State;
+use lg_desk::Journal;
 use lg_io::{DiskFiles, FileRead, Files, MemorySink, NoFaults};
 use std::alloc::Global;
 use std::process::Abort;

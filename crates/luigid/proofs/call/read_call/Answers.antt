@@ -1,13 +1,13 @@
 use Rattle.std.proofs.Common.{◌≡◌, ℕ, List, Result, Ok, Err, OnErr, sym, ◌∙◌}
-use Rattle.luigid.specs.declared.method.Method.{Method}
-use Rattle.luigid.specs.declared.refusal.Refusal.{Refusal}
-use Rattle.luigid.specs.Call.{method_asked}
+use Rattle.lg_calls.specs.declared.method.Method.{Method}
+use Rattle.luigid.specs.declared.refusal.Misrouted.{Misrouted}
+use Rattle.luigid.specs.Call.{route}
 use Rattle.luigid.proofs.Calls.{asks-none, wants-call}
 use Rattle.luigid.proofs.call.read_call.Goals as goal
 
 -- what was found for the parts of a message
-found_for : (verb target seen at : List ℕ) (found value : Result Method Refusal) → seen ≡ verb → at ≡ target → found ≡ method_asked seen at → found ≡ value
-    → method_asked verb target ≡ value
+found_for : (verb target seen at : List ℕ) (found value : Result Method Misrouted) → seen ≡ verb → at ≡ target → found ≡ route seen at → found ≡ value
+    → route verb target ≡ value
 found_for verb target seen at found value verb_is target_is is value_is = rw (← verb_is, ← target_is) (sym is ∙ value_is)
 
 -- what holds anyway holds of a fault
@@ -18,9 +18,9 @@ on_err (Err e) P p = p
 pub returns-in-Ok-clause-memory : goal.returns-in-Ok-clause-memory
 returns-in-Ok-clause-memory c =
     on_err c.asked_of.result _ (wants-call c.args.message.now.verb c.args.message.now.target c.args.message.now.body.items _
-    (found_for c.args.message.now.verb c.args.message.now.target _ _ _ _ c.bytes.ensures c.bytes-target.ensures c.method_asked.ensures c.in-Ok.is))
+    (found_for c.args.message.now.verb c.args.message.now.target _ _ _ _ c.bytes.ensures c.bytes-target.ensures c.route.ensures c.in-Ok.is))
 
 pub returns-in-Err-clause-asked : goal.returns-in-Err-clause-asked
 returns-in-Err-clause-asked c =
     asks-none c.args.message.now.verb c.args.message.now.target c.args.message.now.body.items _
-    (found_for c.args.message.now.verb c.args.message.now.target _ _ _ _ c.bytes.ensures c.bytes-target.ensures c.method_asked.ensures c.in-Err.is)
+    (found_for c.args.message.now.verb c.args.message.now.target _ _ _ _ c.bytes.ensures c.bytes-target.ensures c.route.ensures c.in-Err.is)

@@ -3,7 +3,7 @@ use Rattle.std.proofs.lemmas.List.{append-nil}
 use Rattle.std.specs.List.{concat}
 use Rattle.lg_http.specs.declared.message.Next.TheVariants as Answer
 use Rattle.luigid.specs.Session.{at_end, unread, without_memory}
-use Rattle.luigid.proofs.Journals.{goes_on_nothing, goes_on_more}
+use Rattle.lg_desk.proofs.CallerLemmas.{goes_on_nothing, goes_on_more}
 use Rattle.luigid.proofs.Responses.{still_fine, spoken}
 use Rattle.luigid.proofs.Sessions.{serving_fresh, all_written, ends, ends_bad, ends_unheard, speaks, goes_on_after, ends_last, ends_unwritten}
 use Rattle.luigid.proofs.connection.serve_connection.Goals as goal

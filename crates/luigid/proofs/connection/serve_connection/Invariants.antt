@@ -1,8 +1,8 @@
 use Rattle.std.proofs.Common.{◌≡◌, false, None}
 use Rattle.lg_io.specs.Link.{LinkTold, fresh_link}
-use Rattle.luigid.specs.declared.state.State.{State}
-use Rattle.luigid.specs.Journal.{is_over, GoesOnBy}
-use Rattle.luigid.specs.Replay.{replay}
+use Rattle.lg_calls.specs.declared.state.State.{State}
+use Rattle.lg_desk.specs.Journal.{is_over, GoesOnBy}
+use Rattle.lg_desk.specs.Replay.{replay}
 use Rattle.luigid.proofs.Sessions.{IsServing}
 use Rattle.luigid.proofs.connection.serve_connection.Given as goal
 

@@ -3,9 +3,9 @@ use Rattle.std.proofs.lemmas.List.Elements.{All-nil}
 use Rattle.lg_io.specs.Door.{DoorTold, closed, failed, no_memory}
 use Rattle.lg_io.specs.Rest.{of_door}
 use Rattle.luigid.specs.declared.audit.LifeEnd.TheVariants.{Stop, Full, Closed, Doors, Memory}
-use Rattle.luigid.specs.declared.journal.Entry.{Entry}
+use Rattle.lg_desk.specs.declared.journal.Entry.{Entry}
 use Rattle.luigid.proofs.Faults.{unmoved, nothing_failed, failed_at_last}
-use Rattle.luigid.proofs.Journals.{alone_more, stop_is_over}
+use Rattle.lg_desk.proofs.CallerLemmas.{alone_more, stop_is_over}
 use Rattle.luigid.proofs.Lanes.{so_far_nothing, so_far_more, none_out}
 use Rattle.luigid.proofs.LaneEnds.{ends_over, ends_by_door}
 use Rattle.luigid.proofs.lane.serve_lane.Goals as goal

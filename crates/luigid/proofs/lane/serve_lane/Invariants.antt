@@ -1,6 +1,6 @@
 use Rattle.std.proofs.Common.{◌≡◌, [], All}
-use Rattle.luigid.specs.declared.journal.Entry.{Entry}
-use Rattle.luigid.specs.Replay.{replay}
+use Rattle.lg_desk.specs.declared.journal.Entry.{Entry}
+use Rattle.lg_desk.specs.Replay.{replay}
 use Rattle.luigid.proofs.Lanes.{SoFar}
 use Rattle.luigid.proofs.lane.serve_lane.Given as goal
 

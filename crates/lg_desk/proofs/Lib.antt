@@ -1,0 +1,5 @@
+pub mod CallerLemmas
+mod Ends
+mod Journals
+mod Pushes
+mod Replays

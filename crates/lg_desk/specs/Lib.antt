@@ -1,0 +1,3 @@
+pub mod GoodEntry
+pub mod Journal
+pub mod Replay
