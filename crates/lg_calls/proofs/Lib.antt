@@ -1,1 +1,3 @@
 pub mod LookLemmas
+pub mod OrderLemmas
+pub mod TaskLemmas

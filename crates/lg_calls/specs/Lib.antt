@@ -1,4 +1,5 @@
 pub mod ArgumentName
+pub mod Laws
 pub mod Look
 pub mod Order
 pub mod Reading

@@ -4,6 +4,7 @@
 mod arguments;
 mod batcher;
 mod info;
+pub mod laws;
 mod look;
 mod methods;
 mod refusal;
