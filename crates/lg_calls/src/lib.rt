@@ -14,6 +14,8 @@ mod settings;
 mod state;
 mod status;
 mod task;
+#[cfg(test)]
+mod tests;
 mod worker;
 
 pub use batcher::BatcherRec;
