@@ -3,14 +3,13 @@ use Rattle.std.specs.Prelude.{◌≡◌, refl, ℕ, ◌^◌, ◌<◌, Bool, fals
 use Rattle.std.specs.List.{filter_map}
 use Rattle.std.specs.Option.{option_flatten}
 use Rattle.lg_calls.specs.declared.state.State.{State}
-use Rattle.lg_calls.specs.Order.{are_distinct}
 use Rattle.lg_calls.specs.Task.{Task}
-use Rattle.lg_calls.specs.Tasks.{ids_of, has_id}
+use Rattle.lg_calls.specs.Tasks.{have_distinct_ids, has_id}
 
 -- a state that can be looked at: its tasks can be counted in 32 bits and told apart by their ids
 pub record CanBeLookedAt (s : State) : Type 0 where
   pub few_tasks : length s.tasks < 2 ^ 32
-  pub ids_differ : IsTrue (are_distinct (ids_of s.tasks))
+  pub ids_differ : IsTrue (have_distinct_ids s.tasks)
 
 -- the tasks at the places, in order
 abbrev pub tasks_at : List (Option Task) → List Task

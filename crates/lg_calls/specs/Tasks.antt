@@ -1,7 +1,7 @@
 -- The list of tasks and how it changes: a task is found by its id, changed, put behind the others or taken out. This
 -- project's own.
-use Rattle.std.specs.Prelude.{ℕ, if◌then◌else◌, Bool, Option, List, [], ◌∷◌, ◌++◌, find, map, filter}
-use Rattle.lg_calls.specs.Order.{is_same}
+use Rattle.std.specs.Prelude.{ℕ, nat_lt, if◌then◌else◌, Bool, Option, List, [], ◌∷◌, ◌++◌, find, map, filter}
+use Rattle.lg_calls.specs.Order.{is_same, all_pairs, are_distinct}
 use Rattle.lg_calls.specs.Task.{Task}
 
 -- the ids of tasks, and their numbers
@@ -10,6 +10,14 @@ ids_of tasks = map (λ task. task.id) tasks
 
 abbrev pub numbers_of : List Task → List ℕ
 numbers_of tasks = map (λ task. task.number) tasks
+
+-- no id stands twice
+abbrev pub have_distinct_ids : List Task → Bool
+have_distinct_ids tasks = are_distinct (ids_of tasks)
+
+-- the numbers rise along the list
+abbrev pub have_rising_numbers : List Task → Bool
+have_rising_numbers tasks = all_pairs nat_lt (numbers_of tasks)
 
 -- the task has this id
 abbrev pub has_id : List ℕ → Task → Bool

@@ -1,5 +1,5 @@
 -- Which states there are. This project's own, after Luigi's central scheduler.
-use Rattle.std.specs.Prelude.{◌≡◌, ℕ, ◌^◌, ◌<◌, ◌≤◌, nat_lt, Bool, true, false, IsTrue, Option, is_some, IsSome, IfSome, List, map, length, All}
+use Rattle.std.specs.Prelude.{◌≡◌, ℕ, ◌^◌, ◌<◌, ◌≤◌, Bool, true, false, IsTrue, Option, is_some, IsSome, IfSome, List, map, length, All}
 use Rattle.std.specs.Ordering.{nat_cmp, is_lt, ordering_then}
 use Rattle.std.specs.Cmp.Lexicographic.{slice_cmp}
 use Rattle.lg_base.specs.declared.moment.Moment.{Moment}
@@ -14,7 +14,7 @@ use Rattle.lg_calls.specs.declared.worker.WorkerRec.{WorkerRec}
 use Rattle.lg_calls.specs.Order.{all_pairs, are_sorted, are_distinct}
 use Rattle.lg_calls.specs.Settings.{AreInRange}
 use Rattle.lg_calls.specs.Task.{Task}
-use Rattle.lg_calls.specs.Tasks.{ids_of, numbers_of}
+use Rattle.lg_calls.specs.Tasks.{have_distinct_ids, have_rising_numbers}
 
 -- the task runs, alone or in a batch
 abbrev pub is_running : Status → Bool
@@ -92,8 +92,8 @@ pub record IsValidState (s : State) : Type 0 where
   pub next_in_range : s.next ≤ 2 ^ 62
   pub settings_in_range : AreInRange s.settings
   pub few_tasks : length s.tasks ≤ 1000000
-  pub ids_differ : IsTrue (are_distinct (ids_of s.tasks))
-  pub numbers_rise : IsTrue (all_pairs nat_lt (numbers_of s.tasks))
+  pub ids_differ : IsTrue (have_distinct_ids s.tasks)
+  pub numbers_rise : IsTrue (have_rising_numbers s.tasks)
   pub numbers_below_next : All (λ task. task.number < s.next) s.tasks
   pub tasks : All (IsValidTask s.moment) s.tasks
   pub workers_in_order : IsTrue (are_sorted (worker_ids_of s.workers))

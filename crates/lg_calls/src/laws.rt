@@ -6,4 +6,35 @@ ghost use Rattle.lg_calls.specs.Method.{methods, row_named};
 pub fn names_are_of_one_method()
     ensures own { All (λ row. row_named row.0 ≡ Some row) methods }
     ensures others { (name : List ℕ) → ¬ Contains (map (λ row. row.0) methods) name → row_named name ≡ None }
+//! What the words on the list of tasks come to, for those who follow a task through the steps.
+ghost use Rattle.std.specs.Prelude.{◌≡◌, ℕ, Bool, IsTrue, List};
+ghost use Rattle.lg_calls.specs.Laws.{KeepsIds, ChangesOne, AddsOne, found_where_kept, IdsStayDistinct, NumbersKeepRising};
+ghost use Rattle.lg_calls.specs.Task.{Task};
+ghost use Rattle.lg_calls.specs.Tasks.{have_distinct_ids, have_rising_numbers, find_task, keep_tasks};
+
+/// Changing the task of an id leaves every other task as it was.
+pub fn changing_one_leaves_the_others()
+    ensures { (id : List ℕ) (change : Task → Task) → KeepsIds change
+        → (tasks : List Task) → ChangesOne id change tasks }
+{}
+
+/// A task that is put behind the others leaves them as they were.
+pub fn adding_one_leaves_the_others()
+    ensures { (task : Task) (tasks : List Task) → AddsOne task tasks }
+{}
+
+/// Where tasks are taken out, those that stay are found as before, and no others.
+pub fn who_stays_is_found()
+    ensures { (stays : Task → Bool) (id : List ℕ) (tasks : List Task) → IsTrue (have_distinct_ids tasks)
+        → find_task id (keep_tasks stays tasks) ≡ found_where_kept stays (find_task id tasks) }
+{}
+
+/// Ids that differ still differ behind each of these changes.
+pub fn ids_stay_distinct()
+    ensures { (tasks : List Task) → IsTrue (have_distinct_ids tasks) → IdsStayDistinct tasks }
+{}
+
+/// Numbers that rise along the list still rise behind each of these changes.
+pub fn numbers_keep_rising()
+    ensures { (tasks : List Task) → IsTrue (have_rising_numbers tasks) → NumbersKeepRising tasks }
 {}

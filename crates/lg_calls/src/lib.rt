@@ -5,9 +5,9 @@ mod arguments;
 mod batcher;
 mod engine;
 mod info;
+pub mod laws;
 mod look;
 mod call;
-pub mod laws;
 mod method;
 mod methods;
 mod ranges;
@@ -19,6 +19,8 @@ mod state;
 mod status;
 mod task;
 mod words;
+#[cfg(test)]
+mod tests;
 mod worker;
 
 pub use batcher::BatcherRec;
