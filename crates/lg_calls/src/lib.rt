@@ -16,6 +16,8 @@ mod settings;
 mod state;
 mod status;
 mod task;
+#[cfg(test)]
+mod tests;
 mod words;
 mod worker;
 
