@@ -17,6 +17,7 @@ use Rattle.lg_calls.specs.declared.refusal.Refusal.TheVariants.{NotJson}
 use Rattle.lg_calls.specs.declared.request.Request.{Request}
 use Rattle.lg_calls.specs.declared.request.Request.TheVariants as R
 use Rattle.lg_calls.specs.Method.{method_asked}
+use Rattle.lg_calls.specs.Methods.AddTaskBatcher.{add_task_batcher}
 use Rattle.lg_calls.specs.Methods.CountPending.{count_pending}
 use Rattle.lg_calls.specs.Methods.DisableWorker.{disable_worker}
 use Rattle.lg_calls.specs.Methods.FetchError.{fetch_error}
@@ -30,8 +31,10 @@ use Rattle.lg_calls.specs.Methods.Ping.{ping}
 use Rattle.lg_calls.specs.Methods.ReEnableTask.{re_enable_task}
 use Rattle.lg_calls.specs.Methods.SetTaskProgressPercentage.{set_task_progress_percentage}
 use Rattle.lg_calls.specs.Methods.SetTaskStatusMessage.{set_task_status_message}
+use Rattle.lg_calls.specs.Methods.TaskList.{task_list}
 use Rattle.lg_calls.specs.Methods.TaskSearch.{task_search}
 use Rattle.lg_calls.specs.Methods.UpdateResource.{update_resource}
+use Rattle.lg_calls.specs.Methods.UpdateResources.{update_resources}
 use Rattle.lg_calls.specs.Methods.WorkerList.{worker_list}
 use Rattle.lg_calls.specs.Reading.{Reading, ◌>>=◌, done, left_in}
 
@@ -41,6 +44,7 @@ asks request arguments = arguments >>= λ ask. done (request ask)
 
 -- the reading of each method; one without arguments reads none
 abbrev pub reading_of : Method → Reading Request
+reading_of M.AddTaskBatcher = asks R.AddTaskBatcher add_task_batcher
 reading_of M.AnnounceSchedulingFailure = done R.AnnounceSchedulingFailure
 reading_of M.CountPending = asks R.CountPending count_pending
 reading_of M.DisableWorker = asks R.DisableWorker disable_worker
@@ -64,9 +68,11 @@ reading_of M.SetTaskProgressPercentage = asks R.SetTaskProgressPercentage set_ta
 reading_of M.SetTaskStatusMessage = asks R.SetTaskStatusMessage set_task_status_message
 reading_of M.StatusCounts = done R.StatusCounts
 reading_of M.Stop = done R.Stop
+reading_of M.TaskList = asks R.TaskList task_list
 reading_of M.TaskSearch = asks R.TaskSearch task_search
 reading_of M.Unpause = done R.Unpause
 reading_of M.UpdateResource = asks R.UpdateResource update_resource
+reading_of M.UpdateResources = asks R.UpdateResources update_resources
 reading_of M.WorkerList = asks R.WorkerList worker_list
 reading_of _ = done R.Pause
 

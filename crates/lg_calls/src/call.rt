@@ -6,6 +6,7 @@ ghost use Rattle.lg_calls.specs.Request.{IsInRange};
 
 use crate::arguments::Arguments;
 use crate::method::{Method, MethodFault};
+use crate::methods::add_task_batcher::AddTaskBatcher;
 use crate::methods::count_pending::CountPending;
 use crate::methods::disable_worker::DisableWorker;
 use crate::methods::fetch_error::FetchError;
@@ -19,8 +20,10 @@ use crate::methods::ping::Ping;
 use crate::methods::re_enable_task::ReEnableTask;
 use crate::methods::set_task_progress_percentage::SetTaskProgressPercentage;
 use crate::methods::set_task_status_message::SetTaskStatusMessage;
+use crate::methods::task_list::ListAsk;
 use crate::methods::task_search::TaskSearch;
 use crate::methods::update_resource::UpdateResource;
+use crate::methods::update_resources::UpdateResources;
 use crate::methods::worker_list::WorkerList;
 use crate::refusal::{PayloadFault, Refusal};
 use crate::request::Request;
@@ -98,6 +101,7 @@ fn read_request(method: Method, arguments: &mut Arguments) -> Result<Request, Pa
     ensures in_range { IfOk result IsInRange }
 {
     match method {
+        Method::AddTaskBatcher => AddTaskBatcher::read(arguments).map(Request::AddTaskBatcher),
         Method::AnnounceSchedulingFailure => Ok(Request::AnnounceSchedulingFailure),
         Method::CountPending => CountPending::read(arguments).map(Request::CountPending),
         Method::DisableWorker => DisableWorker::read(arguments).map(Request::DisableWorker),
@@ -131,9 +135,11 @@ fn read_request(method: Method, arguments: &mut Arguments) -> Result<Request, Pa
         ),
         Method::StatusCounts => Ok(Request::StatusCounts),
         Method::Stop => Ok(Request::Stop),
+        Method::TaskList => ListAsk::read(arguments).map(Request::TaskList),
         Method::TaskSearch => TaskSearch::read(arguments).map(Request::TaskSearch),
         Method::Unpause => Ok(Request::Unpause),
         Method::UpdateResource => UpdateResource::read(arguments).map(Request::UpdateResource),
+        Method::UpdateResources => UpdateResources::read(arguments).map(Request::UpdateResources),
         Method::WorkerList => WorkerList::read(arguments).map(Request::WorkerList),
         _ => Err(PayloadFault::NoMemory),
     }

@@ -18,6 +18,8 @@ mod settings;
 mod state;
 mod status;
 mod task;
+#[cfg(test)]
+mod tests;
 mod words;
 #[cfg(test)]
 mod tests;

@@ -1,1 +1,5 @@
 mod records;
+//! Calls from outside, with what is to come of them.
+
+mod calls;
+mod names;
