@@ -3,6 +3,7 @@ pub mod Methods
 pub mod Ranges
 pub mod Reading
 pub mod Request
+pub mod RetryEntries
 pub mod Task
 pub mod TaskView
 pub mod Valid
