@@ -12,6 +12,7 @@ pub mod Ranges
 pub mod Reading
 pub mod Refusal
 pub mod Request
+pub mod RetryEntries
 pub mod Settings
 pub mod State
 pub mod Step

@@ -13,6 +13,7 @@ mod methods;
 mod ranges;
 mod refusal;
 mod request;
+mod retry_entries;
 mod retry_policy;
 mod settings;
 mod state;
