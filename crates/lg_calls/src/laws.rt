@@ -1,16 +1,15 @@
-//! What the definitions come to, in the words of those who call.
-ghost use Rattle.std.specs.Prelude.{◌≡◌, ℕ, List, All, Contains, Some, None, map};
+//! What the definitions come to, for those who call and for those who follow a task through the steps.
+ghost use Rattle.std.specs.Prelude.{All, Bool, Contains, IsTrue, List, None, Some, map, ℕ, ◌≡◌};
+ghost use Rattle.lg_calls.specs.Laws.{KeepsIds, ChangesOne, AddsOne, found_where_kept, IdsStayDistinct, NumbersKeepRising};
 ghost use Rattle.lg_calls.specs.Method.{methods, row_named};
+ghost use Rattle.lg_calls.specs.Task.{Task};
+ghost use Rattle.lg_calls.specs.Tasks.{have_distinct_ids, have_rising_numbers, find_task, keep_tasks};
 
 /// Each name of the table is of its own method, so that the names differ, and any other text is of none.
 pub fn names_are_of_one_method()
     ensures own { All (λ row. row_named row.0 ≡ Some row) methods }
     ensures others { (name : List ℕ) → ¬ Contains (map (λ row. row.0) methods) name → row_named name ≡ None }
-//! What the words on the list of tasks come to, for those who follow a task through the steps.
-ghost use Rattle.std.specs.Prelude.{◌≡◌, ℕ, Bool, IsTrue, List};
-ghost use Rattle.lg_calls.specs.Laws.{KeepsIds, ChangesOne, AddsOne, found_where_kept, IdsStayDistinct, NumbersKeepRising};
-ghost use Rattle.lg_calls.specs.Task.{Task};
-ghost use Rattle.lg_calls.specs.Tasks.{have_distinct_ids, have_rising_numbers, find_task, keep_tasks};
+{}
 
 /// Changing the task of an id leaves every other task as it was.
 pub fn changing_one_leaves_the_others()

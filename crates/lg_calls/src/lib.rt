@@ -3,11 +3,11 @@
 
 mod arguments;
 mod batcher;
+mod call;
 mod engine;
 mod info;
 pub mod laws;
 mod look;
-mod call;
 mod method;
 mod methods;
 mod ranges;
@@ -22,15 +22,13 @@ mod task;
 #[cfg(test)]
 mod tests;
 mod words;
-#[cfg(test)]
-mod tests;
 mod worker;
 
 pub use batcher::BatcherRec;
+pub use call::{CallFault, request_of, requested};
 pub use engine::{Engine, Reply, StepFault};
 pub use info::Info;
 pub use look::Look;
-pub use call::{CallFault, request_of, requested};
 pub use method::{Method, MethodFault};
 pub use methods::add_task::AddTask;
 pub use methods::add_task_batcher::AddTaskBatcher;

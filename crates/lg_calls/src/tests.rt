@@ -1,5 +1,5 @@
-mod records;
-//! Calls from outside, with what is to come of them.
+//! Calls and records from outside, with what is to come of them.
 
 mod calls;
 mod names;
+mod records;
