@@ -1,8 +1,11 @@
 pub mod CallLemmas
+pub mod CallerLemmas
 pub mod LimitLemmas
 pub mod LookLemmas
 pub mod MethodLemmas
 pub mod OrderLemmas
 pub mod RangeLemmas
 pub mod ReadingLemmas
+pub mod StepLemmas
 pub mod TaskLemmas
+pub mod ValidLemmas

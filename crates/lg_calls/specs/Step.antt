@@ -1,22 +1,17 @@
 -- What one request does to the state, and what it comes to. This project's own, after Luigi's central scheduler.
-use Rattle.std.specs.Prelude.{ℕ, ℤ, List, max, pos, negsuc, true, false}
-use Rattle.std.specs.FinMap.{insert}
-use Rattle.lg_json.specs.Tree.{null, truth}
-use Rattle.lg_calls.specs.declared.methods.update_resource.UpdateResource.{UpdateResource}
+use Rattle.std.specs.Prelude.{ℕ, max}
+use Rattle.lg_json.specs.Tree.{null}
 use Rattle.lg_calls.specs.declared.request.Request.{Request}
 use Rattle.lg_calls.specs.declared.request.Request.TheVariants as Request
 use Rattle.lg_calls.specs.declared.state.State.{State}
+use Rattle.lg_calls.specs.Methods.UpdateResource.{limit_set}
 use Rattle.lg_calls.specs.Outcome.{Outcome, replied, full}
 use Rattle.lg_calls.specs.Pruning.{pruned_if_due}
 
--- a limit below 0 isn't set
-abbrev pub limit_set : State → List ℕ → ℤ → State × Outcome
-limit_set state resource (pos amount) = (record state { limits = insert state.limits resource amount }, replied (truth true))
-limit_set state resource (negsuc amount) = (state, replied (truth false))
-
--- what a request does to the state of its moment, one case a method that is built; no other is ever made
+-- what a request does to the state of its moment, one case a method that is built; no other request is ever made
 abbrev pub applied : State → Request → State × Outcome
 applied state (Request.UpdateResource ask) = limit_set state ask.resource ask.amount
+applied state Request.Stop = (state, replied null)
 applied state _ = (state, replied null)
 
 -- the state at the moment of a step, which is the later one of the moment handed in and the state's own; pruned if that is due

@@ -4,8 +4,9 @@ ghost use Rattle.lg_json.specs.Tree.{tree_of};
 ghost use Rattle.lg_calls.specs.Outcome.{replied};
 ghost use Rattle.lg_calls.specs.declared.state.State.{State};
 ghost use Rattle.lg_calls.specs.Pruning.{asks_for_pruning, is_due, pruned_if_due};
-ghost use Rattle.lg_calls.specs.Request.{IsInRange, int_at_most, max_amount};
-ghost use Rattle.lg_calls.specs.Step.{applied, limit_set};
+ghost use Rattle.lg_calls.specs.Methods.UpdateResource.{limit_set, update_resource_in_range};
+ghost use Rattle.lg_calls.specs.Request.{IsInRange};
+ghost use Rattle.lg_calls.specs.Step.{applied};
 ghost use Rattle.lg_calls.specs.Valid.{IsValidState};
 ghost use Rattle.lg_calls.specs.ValidOnce.{valid_state-prop};
 
@@ -32,7 +33,7 @@ impl Engine for Limits {
     }
 
     fn step(&mut self, _alloc: Global, now: Moment, request: &Request) -> Result<Reply, StepFault> {
-        let now = self.state.moment.max(now);
+        let now = Moment(self.state.moment.0.max(now.0));
         let pruned = pruned_at(&self.state, now, request);
         let reply = apply(&mut self.state.limits, request)?;
         self.state.moment = now;
@@ -63,7 +64,7 @@ fn apply(limits: &mut Amounts, request: &Request) -> Result<Reply, NoMemory>
 
 /// Sets a limit; one below 0 isn't set.
 fn set(limits: &mut Amounts, ask: &UpdateResource) -> Result<Reply, NoMemory>
-    requires { IsTrue (int_at_most max_amount ask.now.amount) }
+    requires { IsTrue (update_resource_in_range ask.now) }
     ensures ok { IfOk result (λ reply. (state : State) → state.limits ≡ limits.old
         → limit_set state ask.now.resource ask.now.amount ≡ (record state { limits = limits.new }, replied (tree_of reply.0))) }
     ensures err { OnErr result (limits.new ≡ limits.old) }

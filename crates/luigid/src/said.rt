@@ -3,10 +3,10 @@ ghost use Rattle.std.specs.Prelude.{◌≡◌, IsErr};
 ghost use Rattle.lg_io.specs.Cause.{HasCause};
 ghost use Rattle.lg_io.specs.Sink.{WritesAll};
 ghost use Rattle.lg_calls.specs.Outcome.{full};
-ghost use Rattle.luigid.specs.declared.refusal.NoCall.TheVariants.{Refused};
+ghost use Rattle.luigid.specs.declared.refusal.NoCall.TheVariants.{Misrouted as misrouted_as, Refused};
 ghost use Rattle.luigid.specs.Transcript.{is_last, not_called, outcome_response, response_of};
 
-use crate::refusal::NoCall;
+use crate::refusal::{Misrouted, NoCall};
 use itoa::Buffer;
 use lg_base::Failed;
 use lg_calls::{Refusal, Reply};
@@ -38,9 +38,7 @@ impl Said {
         match self {
             Said::Replied(reply, last) => respond(sink, 200, &reply.0, *last),
             Said::Full(tasks, last) => say_full(*tasks, *last, sink),
-            Said::NotCalled(NoCall::Misrouted(misrouted)) => {
-                respond_error(sink, misrouted.status(), &[misrouted.text()], false)
-            }
+            Said::NotCalled(NoCall::Misrouted(misrouted)) => say_misrouted(*misrouted, sink),
             Said::NotCalled(NoCall::Refused(refusal)) => say_refused(refusal, sink),
             Said::NoMemory => respond_error(sink, 503, &["no memory"], false),
         }
@@ -66,6 +64,15 @@ fn say_full<S: Sink>(tasks: u64, last: bool, sink: &mut S) -> Result<(), Failed>
     let mut digits = Buffer::new();
     let parts: [&str; 2] = ["full ", digits.format(tasks)];
     respond_error(sink, 507, &parts, last)
+}
+
+/// Writes why a message reaches no method.
+fn say_misrouted<S: Sink>(misrouted: Misrouted, sink: &mut S) -> Result<(), Failed>
+    ensures told { WritesAll (S.taken sink.old) (S.taken sink.new) (response_of (not_called (misrouted_as misrouted))) result }
+    ensures cause { HasCause (S.faults sink.old) (S.faults sink.new) (IsErr result) }
+    ensures rest { S.rest sink.new ≡ S.rest sink.old }
+{
+    respond_error(sink, misrouted.status(), &[misrouted.text()], false)
 }
 
 /// Writes why a method refuses its payload.

@@ -1,7 +1,11 @@
--- The arguments of `update_resource`. This project's own, after Luigi's RPC.
-use Rattle.std.specs.Prelude.{codes, ℕ, ℤ, pos, negsuc, nat_le, Bool, true}
+-- The arguments of `update_resource`, and what it does. This project's own, after Luigi's RPC.
+use Rattle.std.specs.Prelude.{codes, ℕ, ℤ, pos, negsuc, nat_le, Bool, true, false, List}
+use Rattle.std.specs.FinMap.{insert}
 use Rattle.lg_json.specs.Fields.{text_in, int_in}
+use Rattle.lg_json.specs.Tree.{truth}
 use Rattle.lg_calls.specs.declared.methods.update_resource.UpdateResource.{UpdateResource}
+use Rattle.lg_calls.specs.declared.state.State.{State}
+use Rattle.lg_calls.specs.Outcome.{Outcome, replied}
 use Rattle.lg_calls.specs.Reading.{Reading, ◌>>=◌, needed, ranged, done}
 
 -- the largest amount
@@ -24,3 +28,8 @@ update_resource =
 
 abbrev pub update_resource_in_range : UpdateResource → Bool
 update_resource_in_range ask = is_amount ask.amount
+
+-- a limit below 0 isn't set
+abbrev pub limit_set : State → List ℕ → ℤ → State × Outcome
+limit_set state resource (pos amount) = (record state { limits = insert state.limits resource amount }, replied (truth true))
+limit_set state resource (negsuc amount) = (state, replied (truth false))

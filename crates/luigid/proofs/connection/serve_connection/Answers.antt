@@ -18,7 +18,7 @@ pub loop-nth-init : goal.loop-nth-init
 loop-nth-init g c = record {
   serving = λ base replayed fresh. serving_fresh base _ _ _ _ _ _ fresh c.in-Ok.ensures.0;
   over = c.in-Ok.ensures.1;
-  not_over = c.requires.not_over;
+  not_over = c.requires;
   goes_on = goes_on_nothing _ _;
   replayed = λ base replayed. replayed;
   rest = refl;
@@ -56,8 +56,8 @@ returns-in-NoMemory-clause-serves g c base replayed fresh =
     ends base _ _ _ _ _ _ reads.0 _ _ _ _ Answer.NoMemory without_memory s reads.1 c.hear.ensures.taken refl
     (λ r. (s.go_on, inl reads.2.1, all_written s.handled r _ (omega (arith, fine, c.hear.ensures.wrote, s.write_fine))))
 
-pub speak_bad_message-requires-clause-status : goal.speak_bad_message-requires-clause-status
-speak_bad_message-requires-clause-status g c = rw c.in-Bad.ensures.reads.2.0 refl
+pub speak_bad_message-requires : goal.speak_bad_message-requires
+speak_bad_message-requires g c = rw c.in-Bad.ensures.reads.2.0 refl
 
 pub returns-in-Bad-clause-serves : goal.returns-in-Bad-clause-serves
 returns-in-Bad-clause-serves g c base replayed fresh =

@@ -13,13 +13,13 @@ invariant-loop-nth g l =
     let source = g.L.Source in
     let sink = g.L.Sink in
     record {
-      serving : (base : State) → l.fn.life.state ≡ replay base l.fn.life.journal
+      serving : (base : State) → g.E.Engine.state l.fn.life.engine ≡ replay base l.fn.life.journal
           → ◌≡◌ {A = LinkTold} (record { received = source.received l.fn.link; taken = sink.taken l.fn.link; read_faults = source.faults l.fn.link; write_faults = sink.faults l.fn.link }) fresh_link
           → IsServing base l.fn.lane l.fn.connection l.fn.life.journal l.life.journal l.nth l.reader.left (clock.calls l.fn.clock) (clock.calls l.clock)
           (record { received = source.received l.link; taken = sink.taken l.link; read_faults = source.faults l.link; write_faults = sink.faults l.link });
       over : l.reader.over ≡ None;
       not_over : is_over l.life.journal ≡ false;
       goes_on : GoesOnBy l.fn.lane l.fn.life.journal l.life.journal;
-      replayed : (base : State) → l.fn.life.state ≡ replay base l.fn.life.journal → l.life.state ≡ replay base l.life.journal;
+      replayed : (base : State) → g.E.Engine.state l.fn.life.engine ≡ replay base l.fn.life.journal → g.E.Engine.state l.life.engine ≡ replay base l.life.journal;
       rest : clock.rest l.clock ≡ clock.rest l.fn.clock;
     }

@@ -1,5 +1,0 @@
-use Rattle.luigid.proofs.Replays.{replay-push, answered-push}
-use Rattle.luigid.proofs.laws.one_step_each.Goals as goal
-
-pub returns : goal.returns
-returns c = λ base journal e. (replay-push base journal e, answered-push base journal e)

@@ -1,0 +1,33 @@
+use Rattle.std.proofs.Common.{arith, ◌≡◌, ◌≤◌, ◌<◌, ◌^◌, ℕ, Bool, true, false, Option, Some, None, sym, subst, if◌then◌else◌}
+use Rattle.std.specs.Prelude.{is_none, ◌||◌}
+use Rattle.lg_base.specs.declared.moment.Moment.{Moment}
+use Rattle.lg_calls.specs.declared.state.State.{State}
+use Rattle.lg_calls.specs.declared.request.Request.{Request}
+use Rattle.lg_calls.specs.Pruning.{pruned, pruned_if_due, is_due, asks_for_pruning}
+use Rattle.lg_calls.specs.Valid.{NotLater, IsValidState}
+use Rattle.lg_calls.proofs.CallerLemmas.{step_by, state-rise}
+use Rattle.luigid.proofs.limits.LimitsEngine.step.Goals as goal
+
+risen : (when : Option Moment) (old now : Moment) → old.0 ≤ now.0 → NotLater when old → NotLater when now
+risen None old now rises holds = tt
+risen (Some moment) old now rises holds = omega arith
+
+-- the last pruning isn't later than the moment
+not_later : (s : State) (now : Moment) (due : Bool) → s.moment.0 ≤ now.0 → NotLater s.pruned s.moment → NotLater (if due then pruned s now.0 else s).pruned now
+not_later s now true rises holds = omega arith
+not_later s now false rises holds = risen s.pruned s.moment now rises holds
+
+pub invariant_of-self-2 : goal.invariant_of-self-2
+invariant_of-self-2 c =
+    let s = c.args.self.now.state in
+    let rises : s.moment.0 ≤ c.max.result = omega arith in
+    let here = not_later s (record { 0 = c.max.result }) (is_none s.pruned || is_due s.pruned c.max.result (asks_for_pruning s.settings c.args.request.now)) rises c.args.self.now.is_valid.pruned_before in
+    record {
+      is_valid = state-rise s (record { 0 = c.max.result }) _ c.apply.new.limits rises (omega arith)
+          (subst (λ last. NotLater last (record { 0 = c.max.result })) (sym c.pruned_at-pruned.ensures) here) c.args.self.now.is_valid;
+    }
+
+pub returns : goal.returns
+returns c =
+    step_by c.args.self.now.state c.args.now.0 c.args.request.now (record { 0 = c.max.result }) _ c.apply.new.limits _ c.max.ensures c.pruned_at-pruned.ensures
+    (λ state same. c.in_ok-reply.ensures.ok state same)
