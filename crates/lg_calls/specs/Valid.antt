@@ -40,6 +40,7 @@ pub record IsValidHistory (now : Moment) (history : History) : Type 0 where
   pub moments : All (λ moment. moment.0 ≤ now.0) history.moments
   pub in_order : DoNotFall history.moments
 
+-- a policy's numbers are below 2^63
 pub record IsValidPolicy (policy : Policy) : Type 0 where
   pub retry_count : policy.retry_count < 2 ^ 63
   pub disable_window : policy.disable_window < 2 ^ 63
@@ -73,6 +74,7 @@ pub record IsValidWorker (now : Moment) (worker : WorkerRec) : Type 0 where
   pub last_get_work : NotLater worker.last_get_work now
   pub info : AreInOrder worker.info
 
+-- a batcher's greatest number of tasks is below 2^63
 pub record IsValidBatcher (batcher : BatcherRec) : Type 0 where
   pub size : IfSome batcher.size (λ most. most < 2 ^ 63)
 

@@ -15,7 +15,7 @@ pub struct BatcherRec {
 }
 
 impl BatcherRec {
-    /// A record equal to this one.
+    /// A record equal to this one. Refused only where there is no memory.
     pub fn copy(&self) -> Result<BatcherRec, NoMemory>
         ensures { IfOk result (λ copy. copy ≡ self.now) }
     {

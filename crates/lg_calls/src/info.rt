@@ -14,7 +14,7 @@ pub enum Info {
 }
 
 impl Info {
-    /// Information equal to this.
+    /// Information equal to this. Refused only where there is no memory.
     pub fn copy(&self) -> Result<Info, NoMemory>
         ensures { IfOk result (λ copy. copy ≡ self.now) }
     {

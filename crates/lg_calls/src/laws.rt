@@ -2,6 +2,10 @@
 ghost use Rattle.std.specs.Prelude.{All, Bool, Contains, IsTrue, List, None, Some, map, ℕ, ◌≡◌};
 ghost use Rattle.lg_calls.specs.Laws.{KeepsIds, ChangesOne, AddsOne, found_where_kept, IdsStayDistinct, NumbersKeepRising};
 ghost use Rattle.lg_calls.specs.Method.{methods, row_named};
+//! What the words on the list of tasks come to, for those who follow a task through the steps.
+ghost use Rattle.std.specs.Prelude.{◌≡◌, ℕ, Bool, IsTrue, List, Option, option_and_then};
+ghost use Rattle.lg_calls.specs.Laws.{KeepsIds, ChangesOne, AddsOne, found_where_kept, IdsStayDistinct, NumbersKeepRising};
+ghost use Rattle.lg_calls.specs.Look.{tasks_at, task_at, place_of};
 ghost use Rattle.lg_calls.specs.Task.{Task};
 ghost use Rattle.lg_calls.specs.Tasks.{have_distinct_ids, have_rising_numbers, find_task, keep_tasks};
 
@@ -36,4 +40,10 @@ pub fn ids_stay_distinct()
 /// Numbers that rise along the list still rise behind each of these changes.
 pub fn numbers_keep_rising()
     ensures { (tasks : List Task) → IsTrue (have_rising_numbers tasks) → NumbersKeepRising tasks }
+{}
+
+/// What stands at the place of an id is the task that is found by the id.
+pub fn who_is_found_stands_at_its_place()
+    ensures { (id : List ℕ) (places : List (Option Task))
+        → option_and_then (task_at places) (place_of id places) ≡ find_task id (tasks_at places) }
 {}

@@ -78,7 +78,7 @@ impl Settings {
         }
     }
 
-    /// Settings equal to these.
+    /// Settings equal to these. Refused only where there is no memory.
     pub fn copy(&self) -> Result<Settings, NoMemory>
         ensures { IfOk result (λ copy. copy ≡ self.now) }
     {

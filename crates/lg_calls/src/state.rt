@@ -52,7 +52,7 @@ impl State {
         }
     }
 
-    /// A state equal to this one.
+    /// A state equal to this one. Refused only where there is no memory.
     pub fn copy(&self) -> Result<State, NoMemory>
         ensures { IfOk result (λ copy. copy ≡ self.now) }
     {

@@ -77,7 +77,7 @@ impl Model for TaskRec {
 }
 
 impl TaskRec {
-    /// A record equal to this one.
+    /// A record equal to this one. Refused only where there is no memory.
     pub fn copy(&self) -> Result<TaskRec, NoMemory>
         ensures { IfOk result (λ copy. copy ≡ self.now) }
     {

@@ -21,7 +21,7 @@ pub struct WorkerRec {
 }
 
 impl WorkerRec {
-    /// A record equal to this one.
+    /// A record equal to this one. Refused only where there is no memory.
     pub fn copy(&self) -> Result<WorkerRec, NoMemory>
         ensures { IfOk result (λ copy. copy ≡ self.now) }
     {
