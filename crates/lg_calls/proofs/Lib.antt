@@ -1,3 +1,4 @@
+pub mod InfoLemmas
 pub mod LimitLemmas
 pub mod RangeLemmas
 pub mod ReadingLemmas

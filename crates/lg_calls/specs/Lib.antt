@@ -1,4 +1,5 @@
 pub mod ArgumentName
+pub mod Infos
 pub mod Methods
 pub mod Ranges
 pub mod Reading

@@ -4,6 +4,7 @@
 mod arguments;
 mod batcher;
 mod info;
+mod infos;
 mod methods;
 mod ranges;
 mod refusal;
