@@ -2,7 +2,6 @@
 
 use crate::{CallFault, Method, PayloadFault, Request, request_of, requested};
 use lg_base::Text;
-use std::alloc::Global;
 use std::test::Fail;
 
 /// Payloads that are refused: the fixed words, and the name of the argument.
@@ -25,17 +24,19 @@ const REFUSED: [(Method, &str, &str, &str); 6] = [
     ),
 ];
 
+/// The words of a refusal; empty ones of another answer.
+fn words_of(answer: &Result<Request, PayloadFault>) -> (&str, &str) {
+    match answer {
+        Err(PayloadFault::Refused(refusal)) => refusal.words(),
+        _ => ("", ""),
+    }
+}
+
 #[test]
 fn the_first_refusal_is_told(rt: HostRuntime) {
     for (method, payload, words, name) in REFUSED {
-        match requested(rt.alloc(), method, payload) {
-            Err(PayloadFault::Refused(refusal)) => {
-                let told = refusal.words();
-                assert_eq!(rt; told.0, words, "{payload}");
-                assert_eq!(rt; told.1, name, "{payload}");
-            }
-            _ => assert!(rt; false, "{payload}"),
-        }
+        let answer = requested(rt.alloc(), method, payload);
+        assert_eq!(rt; words_of(&answer), (words, name), "{payload}");
     }
 }
 
@@ -55,24 +56,25 @@ const LIMITS: [(&str, &str, i64); 4] = [
     ),
 ];
 
-#[test]
-fn limits_are_read(rt: HostRuntime) {
-    for (payload, resource, amount) in LIMITS {
-        match requested(rt.alloc(), Method::UpdateResource, payload) {
-            Ok(Request::UpdateResource(ask)) => {
-                assert_eq!(rt; ask.resource.as_str(), resource, "{payload}");
-                assert_eq!(rt; ask.amount, amount, "{payload}");
-            }
-            _ => assert!(rt; false, "{payload}"),
-        }
+/// The limit that is asked for.
+fn limit_of(answer: &Result<Request, PayloadFault>) -> Option<(&str, i64)> {
+    match answer {
+        Ok(Request::UpdateResource(ask)) => Some((ask.resource.as_str(), ask.amount)),
+        _ => None,
     }
 }
 
-/// What comes of a call, in words.
-fn outcome(alloc: Global, name: &str, payload: &str) -> Result<&'static str, Fail> {
-    let name = Text::copied(alloc, name)?;
-    let payload = Text::copied(alloc, payload)?;
-    Ok(match request_of(alloc, &name, &payload) {
+#[test]
+fn limits_are_read(rt: HostRuntime) {
+    for (payload, resource, amount) in LIMITS {
+        let answer = requested(rt.alloc(), Method::UpdateResource, payload);
+        assert_eq!(rt; limit_of(&answer), Some((resource, amount)), "{payload}");
+    }
+}
+
+/// What came of a call, in words.
+fn outcome_of(answer: &Result<Request, CallFault>) -> &str {
+    match answer {
         Ok(Request::Stop) => "stop",
         Ok(Request::UpdateResource(_)) => "update_resource",
         Ok(_) => "another",
@@ -80,7 +82,7 @@ fn outcome(alloc: Global, name: &str, payload: &str) -> Result<&'static str, Fai
         Err(CallFault::NotBuilt) => "not built",
         Err(CallFault::Refused(refusal)) => refusal.words().0,
         Err(CallFault::NoMemory) => "no memory",
-    })
+    }
 }
 
 /// Calls, and what comes of them: the payload is looked at last.
@@ -100,11 +102,10 @@ const CALLS: [(&str, &str, &str); 6] = [
 #[test]
 fn the_payload_is_looked_at_last(rt: HostRuntime) -> Result<(), Fail> {
     for (name, payload, expected) in CALLS {
-        assert_eq!(rt;
-            outcome(rt.alloc(), name, payload)?,
-            expected,
-            "{name} {payload}"
-        );
+        let method = Text::copied(rt.alloc(), name)?;
+        let text = Text::copied(rt.alloc(), payload)?;
+        let answer = request_of(rt.alloc(), &method, &text);
+        assert_eq!(rt; outcome_of(&answer), expected, "{name} {payload}");
     }
     Ok(())
 }
