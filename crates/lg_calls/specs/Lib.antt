@@ -6,6 +6,7 @@ pub mod Ranges
 pub mod Reading
 pub mod Refusal
 pub mod Request
+pub mod RetryEntries
 pub mod Task
 pub mod TaskView
 pub mod Valid

@@ -1,3 +1,4 @@
+pub mod AddTask
 pub mod AddTaskBatcher
 pub mod CountPending
 pub mod DisableWorker

@@ -1,9 +1,10 @@
 //! The arguments of a call, read one after another out of the fields of its payload.
-ghost use Rattle.std.specs.Prelude.{◌≡◌, IfOk, IfSome, IfNone};
+ghost use Rattle.std.specs.Prelude.{◌≡◌, IfOk, IfSome, IfNone, option_map};
 ghost use Rattle.serde_json.specs.Data.{member, no_members};
+ghost use Rattle.serde_json.specs.Find.{get_member};
 ghost use Rattle.serde_json.specs.View.{view};
 ghost use Rattle.lg_base.specs.Names.{AreInOrder};
-ghost use Rattle.lg_json.specs.Fields.{fields_view, text_in, truth_in, int_in, texts_in, pairs_in, amounts_in, items_of};
+ghost use Rattle.lg_json.specs.Fields.{fields_view, text_in, truth_in, int_in, texts_in, pairs_in, amounts_in, items_of, value_in, IsTakenOut};
 ghost use Rattle.lg_calls.specs.Reading.{field, needed, left_in, present_as, taken_as, Reads};
 ghost use Rattle.lg_calls.specs.declared.refusal.Refusal.TheVariants.{OutOfRange};
 ghost use Rattle.lg_calls.specs.declared.refusal.PayloadFault.TheVariants.{Refused};
@@ -114,6 +115,14 @@ impl Arguments {
         taken(name, self.fields.take_amounts(self.alloc, name))
     }
 
+    /// An argument of any kind that may be absent.
+    pub(crate) fn value(&mut self, name: &'static str) -> Option<Value>
+        ensures value { option_map view result ≡ value_in (get_member name.now (left_in self.old)) }
+        ensures taken { IsTakenOut name.now (left_in self.old) (left_in self.new) }
+    {
+        self.fields.take_value(name)
+    }
+
     /// The first argument in the order of the names' bytes, null or not, with its name; none where none is left.
     pub(crate) fn first(&mut self) -> Option<(Name, Value)>
         ensures first { IfSome result (λ first. left_in self.old ≡ member first.0 (view first.1) (left_in self.new)) }
@@ -129,7 +138,7 @@ impl Arguments {
 }
 
 /// A field as it was taken, or why it wasn't, with its name.
-fn taken<A>(name: &'static str, field: Result<A, TakeFault>) -> Result<A, PayloadFault>
+pub(crate) fn taken<A>(name: &'static str, field: Result<A, TakeFault>) -> Result<A, PayloadFault>
     ensures { result ≡ taken_as name.now field }
 {
     match field {

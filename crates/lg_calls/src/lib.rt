@@ -11,6 +11,7 @@ mod methods;
 mod ranges;
 mod refusal;
 mod request;
+mod retry_entries;
 mod retry_policy;
 mod settings;
 mod state;
