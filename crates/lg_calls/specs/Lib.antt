@@ -1,8 +1,11 @@
 pub mod ArgumentName
+pub mod Call
 pub mod Infos
+pub mod Method
 pub mod Methods
 pub mod Ranges
 pub mod Reading
+pub mod Refusal
 pub mod Request
 pub mod RetryEntries
 pub mod Task

@@ -3,8 +3,11 @@
 
 mod arguments;
 mod batcher;
+mod call;
 mod info;
 mod infos;
+pub mod laws;
+mod method;
 mod methods;
 mod ranges;
 mod refusal;
@@ -15,11 +18,15 @@ mod settings;
 mod state;
 mod status;
 mod task;
+#[cfg(test)]
+mod tests;
 mod words;
 mod worker;
 
 pub use batcher::BatcherRec;
+pub use call::{CallFault, request_of, requested};
 pub use info::Info;
+pub use method::{Method, MethodFault};
 pub use methods::add_task::AddTask;
 pub use methods::add_task_batcher::AddTaskBatcher;
 pub use methods::add_worker::AddWorker;

@@ -1,5 +1,6 @@
 //! Why a call isn't made.
-ghost use Rattle.std.specs.Prelude.{◌≡◌};
+ghost use Rattle.std.specs.Prelude.{◌≡◌, ◌++◌};
+ghost use Rattle.lg_calls.specs.Refusal.{refusal_text};
 ghost use Rattle.lg_calls.specs.declared.refusal.PayloadFault.TheVariants.{NoMemory as out_of_memory};
 
 use lg_base::{Name, NoMemory};
@@ -74,6 +75,21 @@ pub enum Refusal {
     WrongKind(ArgumentName),
     /// The argument is a number, or a word, that isn't in its range.
     OutOfRange(ArgumentName),
+}
+
+impl Refusal {
+    /// The refusal in words, as two texts that stand one behind the other: fixed words, and the name of the argument. It takes no
+    /// memory.
+    pub fn words(&self) -> (&'static str, &str)
+        ensures { result.0.now ++ result.1.now ≡ refusal_text self.now }
+    {
+        match self {
+            Refusal::NotJson => ("bad json", ""),
+            Refusal::MissingArgument(name) => ("missing ", name.as_str()),
+            Refusal::WrongKind(name) => ("wrong kind ", name.as_str()),
+            Refusal::OutOfRange(name) => ("out of range ", name.as_str()),
+        }
+    }
 }
 
 /// Why a payload gave no call.

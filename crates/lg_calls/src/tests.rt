@@ -1,0 +1,4 @@
+//! Calls from outside, with what is to come of them.
+
+mod calls;
+mod names;
