@@ -17,6 +17,7 @@ use Rattle.lg_calls.specs.declared.refusal.Refusal.TheVariants.{NotJson}
 use Rattle.lg_calls.specs.declared.request.Request.{Request}
 use Rattle.lg_calls.specs.declared.request.Request.TheVariants as R
 use Rattle.lg_calls.specs.Method.{method_asked}
+use Rattle.lg_calls.specs.Methods.AddTask.{add_task}
 use Rattle.lg_calls.specs.Methods.AddTaskBatcher.{add_task_batcher}
 use Rattle.lg_calls.specs.Methods.CountPending.{count_pending}
 use Rattle.lg_calls.specs.Methods.DisableWorker.{disable_worker}
@@ -44,6 +45,7 @@ asks request arguments = arguments >>= λ ask. done (request ask)
 
 -- the reading of each method; one without arguments reads none
 abbrev pub reading_of : Method → Reading Request
+reading_of M.AddTask = asks R.AddTask add_task
 reading_of M.AddTaskBatcher = asks R.AddTaskBatcher add_task_batcher
 reading_of M.AnnounceSchedulingFailure = done R.AnnounceSchedulingFailure
 reading_of M.CountPending = asks R.CountPending count_pending

@@ -6,6 +6,7 @@ ghost use Rattle.lg_calls.specs.Request.{IsInRange};
 
 use crate::arguments::Arguments;
 use crate::method::{Method, MethodFault};
+use crate::methods::add_task::AddTask;
 use crate::methods::add_task_batcher::AddTaskBatcher;
 use crate::methods::count_pending::CountPending;
 use crate::methods::disable_worker::DisableWorker;
@@ -101,6 +102,7 @@ fn read_request(method: Method, arguments: &mut Arguments) -> Result<Request, Pa
     ensures in_range { IfOk result IsInRange }
 {
     match method {
+        Method::AddTask => AddTask::read(arguments).map(Request::AddTask),
         Method::AddTaskBatcher => AddTaskBatcher::read(arguments).map(Request::AddTaskBatcher),
         Method::AnnounceSchedulingFailure => Ok(Request::AnnounceSchedulingFailure),
         Method::CountPending => CountPending::read(arguments).map(Request::CountPending),
