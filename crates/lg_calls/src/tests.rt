@@ -2,3 +2,5 @@
 
 mod calls;
 mod names;
+mod readings;
+mod refusals;
