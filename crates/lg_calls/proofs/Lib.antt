@@ -1,5 +1,6 @@
 pub mod CallLemmas
 pub mod CallerLemmas
+pub mod InfoLemmas
 pub mod LimitLemmas
 pub mod LookLemmas
 pub mod MethodLemmas

@@ -6,9 +6,9 @@ use Rattle.lg_base.specs.Amounts.{AmountsByName}
 use Rattle.lg_json.specs.Fields.{amount_of}
 use Rattle.lg_json.specs.declared.fields.TakeFault.{TakeFault}
 use Rattle.lg_json.specs.declared.fields.TakeFault.TheVariants as Take
-use Rattle.lg_calls.specs.Methods.UpdateResources.{with_amount, limits_from}
+use Rattle.lg_calls.specs.Methods.UpdateResources.{limits_from}
 use Rattle.lg_calls.specs.Ranges.{fault_of}
-use Rattle.lg_calls.specs.Reading.{Reads, left_in, refusal_of}
+use Rattle.lg_calls.specs.Reading.{Reads, left_in}
 use Rattle.lg_calls.specs.declared.arguments.Arguments.{Arguments}
 
 -- a field that is no amount

@@ -17,7 +17,9 @@ use Rattle.lg_calls.specs.declared.refusal.Refusal.TheVariants.{NotJson}
 use Rattle.lg_calls.specs.declared.request.Request.{Request}
 use Rattle.lg_calls.specs.declared.request.Request.TheVariants as R
 use Rattle.lg_calls.specs.Method.{method_asked}
+use Rattle.lg_calls.specs.Methods.AddTask.{add_task}
 use Rattle.lg_calls.specs.Methods.AddTaskBatcher.{add_task_batcher}
+use Rattle.lg_calls.specs.Methods.AddWorker.{add_worker}
 use Rattle.lg_calls.specs.Methods.CountPending.{count_pending}
 use Rattle.lg_calls.specs.Methods.DisableWorker.{disable_worker}
 use Rattle.lg_calls.specs.Methods.FetchError.{fetch_error}
@@ -44,7 +46,9 @@ asks request arguments = arguments >>= λ ask. done (request ask)
 
 -- the reading of each method; one without arguments reads none
 abbrev pub reading_of : Method → Reading Request
+reading_of M.AddTask = asks R.AddTask add_task
 reading_of M.AddTaskBatcher = asks R.AddTaskBatcher add_task_batcher
+reading_of M.AddWorker = asks R.AddWorker add_worker
 reading_of M.AnnounceSchedulingFailure = done R.AnnounceSchedulingFailure
 reading_of M.CountPending = asks R.CountPending count_pending
 reading_of M.DisableWorker = asks R.DisableWorker disable_worker
@@ -74,7 +78,6 @@ reading_of M.Unpause = done R.Unpause
 reading_of M.UpdateResource = asks R.UpdateResource update_resource
 reading_of M.UpdateResources = asks R.UpdateResources update_resources
 reading_of M.WorkerList = asks R.WorkerList worker_list
-reading_of _ = done R.Pause
 
 -- the fields of a payload
 abbrev pub fields_in : List ℕ → Result Members Refusal

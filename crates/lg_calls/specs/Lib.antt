@@ -1,6 +1,7 @@
 pub mod ArgumentName
 pub mod Call
 pub mod Engine
+pub mod Infos
 pub mod Laws
 pub mod Look
 pub mod Method

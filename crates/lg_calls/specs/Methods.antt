@@ -1,5 +1,6 @@
 pub mod AddTask
 pub mod AddTaskBatcher
+pub mod AddWorker
 pub mod CountPending
 pub mod DisableWorker
 pub mod FetchError

@@ -185,7 +185,7 @@ fn names_of(alloc: Global, texts: Seq<Text>) -> Result<Seq<Name>, NoMemory>
 }
 
 /// What has to be there.
-fn present<A>(name: &'static str, field: Option<A>) -> Result<A, PayloadFault>
+pub(crate) fn present<A>(name: &'static str, field: Option<A>) -> Result<A, PayloadFault>
     ensures { result ≡ present_as name.now field }
 {
     match field {

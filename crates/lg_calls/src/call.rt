@@ -6,7 +6,9 @@ ghost use Rattle.lg_calls.specs.Request.{IsInRange};
 
 use crate::arguments::Arguments;
 use crate::method::{Method, MethodFault};
+use crate::methods::add_task::AddTask;
 use crate::methods::add_task_batcher::AddTaskBatcher;
+use crate::methods::add_worker::AddWorker;
 use crate::methods::count_pending::CountPending;
 use crate::methods::disable_worker::DisableWorker;
 use crate::methods::fetch_error::FetchError;
@@ -101,7 +103,9 @@ fn read_request(method: Method, arguments: &mut Arguments) -> Result<Request, Pa
     ensures in_range { IfOk result IsInRange }
 {
     match method {
+        Method::AddTask => AddTask::read(arguments).map(Request::AddTask),
         Method::AddTaskBatcher => AddTaskBatcher::read(arguments).map(Request::AddTaskBatcher),
+        Method::AddWorker => AddWorker::read(arguments).map(Request::AddWorker),
         Method::AnnounceSchedulingFailure => Ok(Request::AnnounceSchedulingFailure),
         Method::CountPending => CountPending::read(arguments).map(Request::CountPending),
         Method::DisableWorker => DisableWorker::read(arguments).map(Request::DisableWorker),
@@ -141,6 +145,5 @@ fn read_request(method: Method, arguments: &mut Arguments) -> Result<Request, Pa
         Method::UpdateResource => UpdateResource::read(arguments).map(Request::UpdateResource),
         Method::UpdateResources => UpdateResources::read(arguments).map(Request::UpdateResources),
         Method::WorkerList => WorkerList::read(arguments).map(Request::WorkerList),
-        _ => Err(PayloadFault::NoMemory),
     }
 }

@@ -1,11 +1,8 @@
 //! What the definitions come to, for those who call and for those who follow a task through the steps.
-ghost use Rattle.std.specs.Prelude.{All, Bool, Contains, IsTrue, List, None, Some, map, ℕ, ◌≡◌};
-ghost use Rattle.lg_calls.specs.Laws.{KeepsIds, ChangesOne, AddsOne, found_where_kept, IdsStayDistinct, NumbersKeepRising};
-ghost use Rattle.lg_calls.specs.Method.{methods, row_named};
-//! What the words on the list of tasks come to, for those who follow a task through the steps.
-ghost use Rattle.std.specs.Prelude.{◌≡◌, ℕ, Bool, IsTrue, List, Option, option_and_then};
+ghost use Rattle.std.specs.Prelude.{◌≡◌, ℕ, List, All, Contains, Some, None, map, Bool, IsTrue, Option, option_and_then};
 ghost use Rattle.lg_calls.specs.Laws.{KeepsIds, ChangesOne, AddsOne, found_where_kept, IdsStayDistinct, NumbersKeepRising};
 ghost use Rattle.lg_calls.specs.Look.{tasks_at, task_at, place_of};
+ghost use Rattle.lg_calls.specs.Method.{methods, row_named};
 ghost use Rattle.lg_calls.specs.Task.{Task};
 ghost use Rattle.lg_calls.specs.Tasks.{have_distinct_ids, have_rising_numbers, find_task, keep_tasks};
 

@@ -6,6 +6,7 @@ mod batcher;
 mod call;
 mod engine;
 mod info;
+mod infos;
 pub mod laws;
 mod look;
 mod method;

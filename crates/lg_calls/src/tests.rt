@@ -2,4 +2,6 @@
 
 mod calls;
 mod names;
+mod readings;
 mod records;
+mod refusals;

@@ -1,7 +1,7 @@
 -- The arguments of `update_resources`. This project's own, after Luigi's RPC.
 use Rattle.std.specs.Prelude.{ℕ, List, Result, Ok, Err}
 use Rattle.std.specs.FinMap.{empty, insert}
-use Rattle.serde_json.specs.Data.{Members, no_members, member}
+use Rattle.serde_json.specs.Data.{no_members, member}
 use Rattle.lg_base.specs.Amounts.{AmountsByName}
 use Rattle.lg_json.specs.Fields.{Read, amount_of}
 use Rattle.lg_calls.specs.declared.methods.update_resources.UpdateResources.{UpdateResources}

@@ -1,5 +1,5 @@
-use Rattle.std.proofs.Common.{◌≡◌, ap, ◌∙◌}
-use Rattle.lg_calls.specs.Ranges.{known_as, count_from}
+use Rattle.std.proofs.Common.{ap, ◌∙◌}
+use Rattle.lg_calls.specs.Ranges.{known_as}
 use Rattle.lg_calls.proofs.RangeLemmas.{known_reads}
 use Rattle.lg_calls.proofs.ReadingLemmas.{then_reads, stopped_reads}
 use Rattle.lg_calls.proofs.ranges.count.Goals as goal
