@@ -13,6 +13,7 @@ use std::process::Abort;
 use std::sync::Wait;
 use std::test::Fail;
 
+mod answers;
 mod calls;
 mod ends;
 mod links;
