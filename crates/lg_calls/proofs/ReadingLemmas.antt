@@ -2,11 +2,11 @@
 use Rattle.std.proofs.Common.{◌≡◌, ℕ, Bool, true, false, List, Option, Some, None, Result, Ok, Err, OnOk, Vec, Global, refl, sym, ap, ◌∙◌}
 use Rattle.std.specs.Result.{IsErrAnd}
 use Rattle.std.proofs.lemmas.Result.{err_from_is_err_and}
-use Rattle.serde_json.specs.Data.{Data, Members}
+use Rattle.serde_json.specs.Data.{Data}
 use Rattle.serde_json.specs.Find.{get_member}
 use Rattle.lg_json.specs.Fields.{Read, Gives, IsTakenOut, items_of}
 use Rattle.lg_json.specs.declared.fields.TakeFault.TheVariants as Take
-use Rattle.lg_calls.specs.Reading.{Reading, ◌>>=◌, read_on, done, field, present, needed, ranged, left_in, taken_as, present_as, Reads}
+use Rattle.lg_calls.specs.Reading.{Reading, ◌>>=◌, read_on, done, field, present, ranged, left_in, taken_as, present_as, Reads}
 use Rattle.lg_calls.specs.declared.arguments.Arguments.{Arguments}
 use Rattle.lg_calls.specs.declared.refusal.PayloadFault.{PayloadFault}
 use Rattle.lg_calls.specs.declared.refusal.Refusal.TheVariants.{OutOfRange}

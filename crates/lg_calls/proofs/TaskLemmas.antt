@@ -1,6 +1,6 @@
 -- What the words on the list of tasks leave, and what is found behind each of them.
-use Rattle.std.proofs.Common.{◌≡◌, ◌≢◌, refl, sym, ap, subst, ◌∙◌, ℕ, ◌<◌, Bool, true, false, not, cond, ltb, IsTrue, List, [], ◌∷◌, ◌++◌, length, map, Option, Some, None}
-use Rattle.std.specs.List.{find, filter, list_all, All}
+use Rattle.std.proofs.Common.{◌≡◌, ◌≢◌, refl, sym, ap, subst, ◌∙◌, ℕ, ◌<◌, Bool, true, false, not, cond, ltb, IsTrue, List, [], ◌∷◌, length, map, Option, Some, None}
+use Rattle.std.specs.List.{find, list_all, All}
 use Rattle.std.specs.Option.{option_map, option_or}
 use Rattle.std.proofs.lemmas.List.{length-map}
 use Rattle.std.proofs.lemmas.List.Elements.{All-nil, All-cons, All-head, All-tail, All-weaker}
@@ -10,7 +10,7 @@ use Rattle.std.proofs.lemmas.List.Sums.{list_all-from_AllPass}
 use Rattle.lg_calls.specs.Laws.{KeepsIds, KeepsNumbers, found_where_kept}
 use Rattle.lg_calls.specs.Order.{is_same, all_pairs}
 use Rattle.lg_calls.specs.Task.{Task}
-use Rattle.lg_calls.specs.Tasks.{ids_of, numbers_of, have_distinct_ids, have_rising_numbers, has_id, find_task, change_meant, change_task, add_task, keep_tasks}
+use Rattle.lg_calls.specs.Tasks.{ids_of, numbers_of, have_distinct_ids, have_rising_numbers, has_id, find_task, change_meant, change_task, append_task, keep_tasks}
 use Rattle.lg_calls.proofs.OrderLemmas.{both, first_of_both, second_of_both, same-is, same-itself, same-not, same-sym, all_pairs-filter, all_pairs-push, all_pairs-map}
 
 -- ---- a change
@@ -135,13 +135,13 @@ or-none : (o : Option Task) → option_or o None ≡ o
 or-none None = refl
 or-none (Some task) = refl
 
-pub find_task-add_task : (task : Task) (tasks : List Task) → find_task task.id tasks ≡ None → find_task task.id (add_task tasks task) ≡ Some task
+pub find_task-add_task : (task : Task) (tasks : List Task) → find_task task.id tasks ≡ None → find_task task.id (append_task tasks task) ≡ Some task
 find_task-add_task task tasks new =
     find-append (has_id task.id) tasks (task ∷ [])
     ∙ ap (λ o. option_or o (cond (has_id task.id task) (Some task) None)) new
     ∙ ap (λ b. cond b (Some task) None) (same-itself task.id)
 
-pub find_task-add_other : (task : Task) (tasks : List Task) (other : List ℕ) → other ≢ task.id → find_task other (add_task tasks task) ≡ find_task other tasks
+pub find_task-add_other : (task : Task) (tasks : List Task) (other : List ℕ) → other ≢ task.id → find_task other (append_task tasks task) ≡ find_task other tasks
 find_task-add_other task tasks other apart =
     find-append (has_id other) tasks (task ∷ [])
     ∙ ap (λ b. option_or (find_task other tasks) (cond b (Some task) None)) (same-not other task.id apart)
@@ -178,9 +178,9 @@ pub have_distinct_ids-change_meant : (is_meant : Task → Bool) (change : Task �
 have_distinct_ids-change_meant is_meant change keeps tasks apart =
     ap (all_pairs (λ one other. not (is_same one other))) (ids_of-change_meant is_meant change keeps tasks) ∙ apart
 
-pub have_distinct_ids-add_task : (task : Task) (tasks : List Task) → IsTrue (have_distinct_ids tasks) → find_task task.id tasks ≡ None → IsTrue (have_distinct_ids (add_task tasks task))
+pub have_distinct_ids-add_task : (task : Task) (tasks : List Task) → IsTrue (have_distinct_ids tasks) → find_task task.id tasks ≡ None → IsTrue (have_distinct_ids (append_task tasks task))
 have_distinct_ids-add_task task tasks apart new =
-    all_pairs-map (λ (t : Task). t.id) (λ one other. not (is_same one other)) (add_task tasks task)
+    all_pairs-map (λ (t : Task). t.id) (λ one other. not (is_same one other)) (append_task tasks task)
     ∙ all_pairs-push (λ (one other : Task). not (is_same one.id other.id)) tasks task (pairs_apart tasks apart) (no_task-has task.id tasks new)
 
 pub have_distinct_ids-keep_tasks : (stays : Task → Bool) (tasks : List Task) → IsTrue (have_distinct_ids tasks) → IsTrue (have_distinct_ids (keep_tasks stays tasks))
@@ -195,9 +195,9 @@ pub have_rising_numbers-change_meant : (is_meant : Task → Bool) (change : Task
 have_rising_numbers-change_meant is_meant change keeps tasks rise =
     ap (all_pairs ltb) (numbers_of-change_meant is_meant change keeps tasks) ∙ rise
 
-pub have_rising_numbers-add_task : (task : Task) (tasks : List Task) → IsTrue (have_rising_numbers tasks) → All (λ (other : Task). other.number < task.number) tasks → IsTrue (have_rising_numbers (add_task tasks task))
+pub have_rising_numbers-add_task : (task : Task) (tasks : List Task) → IsTrue (have_rising_numbers tasks) → All (λ (other : Task). other.number < task.number) tasks → IsTrue (have_rising_numbers (append_task tasks task))
 have_rising_numbers-add_task task tasks rise below =
-    all_pairs-map (λ (t : Task). t.number) ltb (add_task tasks task)
+    all_pairs-map (λ (t : Task). t.number) ltb (append_task tasks task)
     ∙ all_pairs-push (λ (one other : Task). ltb one.number other.number) tasks task (pairs_rise tasks rise)
     (list_all-from_AllPass (λ (other : Task). ltb other.number task.number) tasks
     (All-weaker (λ (other : Task). other.number < task.number) (λ (other : Task). ltb other.number task.number ≡ true) (λ other lower. lt-ltb other.number task.number lower) tasks below))

@@ -1,5 +1,5 @@
 -- A valid state at a later moment.
-use Rattle.std.proofs.Common.{◌≡◌, ℕ, ◌^◌, ◌<◌, ◌≤◌, Option, Some, None, arith}
+use Rattle.std.proofs.Common.{◌^◌, ◌<◌, ◌≤◌, Option, Some, None, arith}
 use Rattle.lg_base.specs.Amounts.{AmountsByName}
 use Rattle.lg_base.specs.declared.moment.Moment.{Moment}
 use Rattle.lg_retry.specs.Failures.{History}

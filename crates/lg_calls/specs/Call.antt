@@ -108,10 +108,10 @@ fields_left (Ok arguments) = Ok (left_in arguments)
 fields_left (Err fault) = Err fault
 
 -- what reading the payload gave, as the answer to the call
-abbrev pub answered : Result Request PayloadFault → Result Request CallFault
-answered (Ok request) = Ok request
-answered (Err (Payload.Refused refusal)) = Err (Call.Refused refusal)
-answered (Err Payload.NoMemory) = Err Call.NoMemory
+abbrev pub as_call : Result Request PayloadFault → Result Request CallFault
+as_call (Ok request) = Ok request
+as_call (Err (Payload.Refused refusal)) = Err (Call.Refused refusal)
+as_call (Err Payload.NoMemory) = Err Call.NoMemory
 
 abbrev pub call_with : Result Request Refusal → Result Request CallFault
 call_with (Ok request) = Ok request
@@ -124,16 +124,16 @@ call_to (Err UnknownMethod) payload = Err Call.UnknownMethod
 call_to (Err NotBuilt) payload = Err Call.NotBuilt
 
 -- the call of the method of this name, with this payload
-abbrev pub call_of : List ℕ → List ℕ → Result Request CallFault
-call_of name payload = call_to (method_asked name) payload
+abbrev pub request_of : List ℕ → List ℕ → Result Request CallFault
+request_of name payload = call_to (method_asked name) payload
 
--- memory is wanted for no method that is unknown or not built
-abbrev pub MayWantMemory : Result Request CallFault → Type 0
-MayWantMemory (Err Call.UnknownMethod) = ⊥
-MayWantMemory (Err Call.NotBuilt) = ⊥
-MayWantMemory _ = Unit {0}
+-- the payload is looked at, and memory may be wanted for it, of no method that is unknown or not built
+abbrev pub LooksAtPayload : Result Request CallFault → Type 0
+LooksAtPayload (Err Call.UnknownMethod) = ⊥
+LooksAtPayload (Err Call.NotBuilt) = ⊥
+LooksAtPayload _ = Unit {0}
 
 -- the answer is the call that is due, or memory ran out where it may
 abbrev pub MakesCall : Result Request CallFault → Result Request CallFault → Type 0
-MakesCall (Err Call.NoMemory) due = MayWantMemory due
+MakesCall (Err Call.NoMemory) due = LooksAtPayload due
 MakesCall answer due = answer ≡ due

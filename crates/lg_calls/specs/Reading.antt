@@ -1,6 +1,6 @@
 -- Reading the arguments of a call, one after another: each reading takes its field out of the object, and the next has the
 -- fields that are left. This project's own, after Luigi's RPC.
-use Rattle.std.specs.Prelude.{ℕ, ℤ, pos, negsuc, nat_le, Bool, if◌then◌else◌, List, Option, Some, None, Result, Ok, Err, ◌≡◌}
+use Rattle.std.specs.Prelude.{ℕ, Bool, if◌then◌else◌, List, Option, Some, None, Result, Ok, Err, ◌≡◌}
 use Rattle.serde_json.specs.Data.{Data, Members}
 use Rattle.serde_json.specs.Find.{get_member}
 use Rattle.lg_json.specs.declared.fields.TakeFault.{TakeFault}

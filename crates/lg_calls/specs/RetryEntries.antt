@@ -27,11 +27,11 @@ entries_in members =
     Ok (record { retry_count = count; disable_hard_timeout = timeout; disable_window = window })
 
 -- an object with the entries of a retry policy
-abbrev pub policy_of : Data → Read RetryPolicy
-policy_of d = of_kind (as_object d) entries_in
+abbrev pub policy_read : Data → Read RetryPolicy
+policy_read d = of_kind (as_object d) entries_in
 
 abbrev pub policy_in : Option Data → Read (Option RetryPolicy)
-policy_in field = optional policy_of (value_in field)
+policy_in field = optional policy_read (value_in field)
 
 -- nothing is said of the policy
 abbrev pub no_policy : RetryPolicy

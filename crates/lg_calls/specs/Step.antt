@@ -2,7 +2,6 @@
 use Rattle.std.specs.Prelude.{ℕ, max}
 use Rattle.lg_json.specs.Tree.{null}
 use Rattle.lg_calls.specs.declared.request.Request.{Request}
-use Rattle.lg_calls.specs.declared.request.Request.TheVariants as Request
 use Rattle.lg_calls.specs.declared.state.State.{State}
 use Rattle.lg_calls.specs.Methods.UpdateResource.{limit_set}
 use Rattle.lg_calls.specs.Outcome.{Outcome, replied, full}

@@ -36,8 +36,8 @@ abbrev pub change_task : List ℕ → (Task → Task) → List Task → List Tas
 change_task id change tasks = change_meant (has_id id) change tasks
 
 -- a task more, behind the others
-abbrev pub add_task : List Task → Task → List Task
-add_task tasks task = tasks ++ task ∷ []
+abbrev pub append_task : List Task → Task → List Task
+append_task tasks task = tasks ++ task ∷ []
 
 -- the tasks that stay
 abbrev pub keep_tasks : (Task → Bool) → List Task → List Task

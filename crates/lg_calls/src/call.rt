@@ -1,6 +1,6 @@
 //! The request of a call, by the name of its method and its payload.
 ghost use Rattle.std.specs.Prelude.{◌≡◌, IfOk, OnOk};
-ghost use Rattle.lg_calls.specs.Call.{fields_in, reading_of, request_in, call_of, answered, fields_left, Answers, MakesCall};
+ghost use Rattle.lg_calls.specs.Call.{fields_in, reading_of, request_in, request_of, as_call, fields_left, Answers, MakesCall};
 ghost use Rattle.lg_calls.specs.Reading.{Reads};
 ghost use Rattle.lg_calls.specs.Request.{IsInRange};
 
@@ -50,11 +50,11 @@ pub enum CallFault {
 /// has the name, and else `NotBuilt` where the method isn't built: both whatever the payload is, and without memory. Else it is as
 /// `requested`.
 pub fn request_of(alloc: Global, method: &Text, payload: &Text) -> Result<Request, CallFault>
-    ensures call { MakesCall result (call_of method.now payload.now) }
+    ensures call { MakesCall result (request_of method.now payload.now) }
     ensures in_range { IfOk result IsInRange }
 {
     match Method::asked(method.bytes()) {
-        Ok(method) => answered(requested(alloc, method, payload.as_str())),
+        Ok(method) => as_call(requested(alloc, method, payload.as_str())),
         Err(MethodFault::UnknownMethod) => Err(CallFault::UnknownMethod),
         Err(MethodFault::NotBuilt) => Err(CallFault::NotBuilt),
     }
@@ -86,8 +86,8 @@ fn arguments_of(alloc: Global, payload: &str) -> Result<Arguments, PayloadFault>
 }
 
 /// The answer to a call whose method is built.
-fn answered(request: Result<Request, PayloadFault>) -> Result<Request, CallFault>
-    ensures { result ≡ answered request }
+fn as_call(request: Result<Request, PayloadFault>) -> Result<Request, CallFault>
+    ensures { result ≡ as_call request }
 {
     match request {
         Ok(request) => Ok(request),

@@ -1,5 +1,10 @@
 //! What the definitions come to, for those who call and for those who follow a task through the steps.
-ghost use Rattle.std.specs.Prelude.{◌≡◌, ℕ, List, All, Contains, Some, None, map, Bool, IsTrue, Option, option_and_then};
+ghost use Rattle.std.specs.Prelude.{◌≡◌, ℕ, List, All, Contains, Some, None, map, Bool, IsTrue, Option, option_and_then, ◌≤◌};
+ghost use Rattle.lg_calls.specs.declared.request.Request.{Request};
+ghost use Rattle.lg_calls.specs.declared.request.Request.TheVariants.{Stop};
+ghost use Rattle.lg_calls.specs.declared.state.State.{State};
+ghost use Rattle.lg_calls.specs.Outcome.{full};
+ghost use Rattle.lg_calls.specs.Step.{step};
 ghost use Rattle.lg_calls.specs.Laws.{KeepsIds, ChangesOne, AddsOne, found_where_kept, IdsStayDistinct, NumbersKeepRising};
 ghost use Rattle.lg_calls.specs.Look.{tasks_at, task_at, place_of};
 ghost use Rattle.lg_calls.specs.Method.{methods, row_named};
@@ -43,4 +48,20 @@ pub fn numbers_keep_rising()
 pub fn who_is_found_stands_at_its_place()
     ensures { (id : List ℕ) (places : List (Option Task))
         → option_and_then (task_at places) (place_of id places) ≡ find_task id (tasks_at places) }
+{}
+
+/// The moment of a state never goes back.
+pub fn moments_never_go_back()
+    ensures { (s : State) (now : ℕ) (request : Request) → s.moment.0 ≤ (step s now request).0.moment.0 }
+{}
+
+/// A scheduler that is full stays as it was, its moment included.
+pub fn a_full_scheduler_stays()
+    ensures { (s : State) (now : ℕ) (request : Request) (tasks : ℕ)
+        → (step s now request).1 ≡ full tasks → (step s now request).0 ≡ s }
+{}
+
+/// A stop sets no limit.
+pub fn a_stop_sets_nothing()
+    ensures { (s : State) (now : ℕ) → (step s now Stop).0.limits ≡ s.limits }
 {}

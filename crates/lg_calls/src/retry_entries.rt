@@ -2,7 +2,7 @@
 ghost use Rattle.std.specs.Prelude.{◌≡◌, IfOk, IfSome, OnOk, IsTrue, option_map};
 ghost use Rattle.serde_json.specs.View.{view};
 ghost use Rattle.lg_json.specs.Fields.{fields_view, optional, IsTakenOut};
-ghost use Rattle.lg_calls.specs.RetryEntries.{entries_in, entry_in, entry_of, is_entry, is_policy, policy_of};
+ghost use Rattle.lg_calls.specs.RetryEntries.{entries_in, entry_in, entry_of, is_entry, is_policy, policy_read};
 
 use crate::retry_policy::RetryPolicy;
 use lg_json::{Fields, TakeFault};
@@ -21,17 +21,17 @@ pub(crate) const NO_POLICY: RetryPolicy = RetryPolicy {
 /// What a retry policy is, read of a value that may be absent. `WrongKind` where it is no object, or an entry is no whole
 /// number; `OutOfRange` where an entry is below 0 or above 10^12. The first fault counts, in the order of `RetryPolicy`.
 pub(crate) fn policy_in(value: Option<Value>) -> Result<Option<RetryPolicy>, TakeFault>
-    ensures read { result ≡ optional policy_of (option_map view value) }
+    ensures read { result ≡ optional policy_read (option_map view value) }
     ensures in_range { IfOk result (λ read. IfSome read (λ policy. IsTrue (is_policy policy))) }
 {
     match value {
         None => Ok(None),
-        Some(value) => Ok(Some(policy_of(value)?)),
+        Some(value) => Ok(Some(policy_read(value)?)),
     }
 }
 
-fn policy_of(value: Value) -> Result<RetryPolicy, TakeFault>
-    ensures read { result ≡ policy_of (view value) }
+fn policy_read(value: Value) -> Result<RetryPolicy, TakeFault>
+    ensures read { result ≡ policy_read (view value) }
     ensures in_range { IfOk result (λ policy. IsTrue (is_policy policy)) }
 {
     match Fields::from_value(value) {

@@ -15,7 +15,6 @@ use Rattle.luigid.specs.declared.call.Asked.TheVariants.{Call, Nothing}
 use Rattle.luigid.specs.declared.refusal.Misrouted.{Misrouted}
 use Rattle.luigid.specs.declared.refusal.Misrouted.TheVariants.{BadVerb, UnknownPath, UnknownMethod, NotBuilt}
 use Rattle.luigid.specs.declared.refusal.NoCall.{NoCall}
-use Rattle.luigid.specs.declared.refusal.NoCall.TheVariants as NoCall
 use Rattle.luigid.specs.Payload.{path_of, payload_of}
 
 -- a method that isn't found is no way

@@ -4,7 +4,6 @@ use Rattle.lg_calls.specs.Refusal.{refusal_text}
 use Rattle.luigid.specs.declared.refusal.Misrouted.{Misrouted}
 use Rattle.luigid.specs.declared.refusal.Misrouted.TheVariants.{BadVerb, UnknownPath, UnknownMethod, NotBuilt}
 use Rattle.luigid.specs.declared.refusal.NoCall.{NoCall}
-use Rattle.luigid.specs.declared.refusal.NoCall.TheVariants as NoCall
 
 abbrev pub misrouted_status : Misrouted → ℕ
 misrouted_status BadVerb = 405

@@ -78,8 +78,8 @@ terms =
       retry_policy = unwrap_or policy no_policy;
     })
 
-abbrev pub joined : Declared → Demands → Described → Terms → AddTask
-joined declared demands described terms = record {
+abbrev pub put_together : Declared → Demands → Described → Terms → AddTask
+put_together declared demands described terms = record {
   worker = declared.worker;
   task_id = declared.task_id;
   status = declared.status;
@@ -106,7 +106,7 @@ add_task =
     demands >>= λ second.
     described >>= λ third.
     terms >>= λ fourth.
-    done (joined first second third fourth)
+    done (put_together first second third fourth)
 
 -- the names rise strictly
 abbrev pub are_in_order : List (List ℕ × List ℕ) → Bool

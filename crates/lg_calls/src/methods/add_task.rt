@@ -1,7 +1,7 @@
 //! `add_task`.
 ghost use Rattle.std.specs.Prelude.{◌≡◌, IfOk, IfSome, IsTrue, codes};
 ghost use Rattle.lg_base.specs.Names.{AreInOrder};
-ghost use Rattle.lg_calls.specs.Methods.AddTask.{add_task, add_task_in_range, declared, demands, described, joined, reported, terms};
+ghost use Rattle.lg_calls.specs.Methods.AddTask.{add_task, add_task_in_range, declared, demands, described, put_together, reported, terms};
 ghost use Rattle.lg_calls.specs.Reading.{field, Reads};
 ghost use Rattle.lg_calls.specs.RetryEntries.{policy_in, is_policy};
 
@@ -101,12 +101,12 @@ impl AddTask {
         let demands = read_demands(arguments)?;
         let described = read_described(arguments)?;
         let terms = read_terms(arguments)?;
-        Ok(joined(declared, demands, described, terms))
+        Ok(put_together(declared, demands, described, terms))
     }
 }
 
-fn joined(declared: Declared, demands: Demands, described: Described, terms: Terms) -> AddTask
-    ensures { result ≡ joined declared demands described terms }
+fn put_together(declared: Declared, demands: Demands, described: Described, terms: Terms) -> AddTask
+    ensures { result ≡ put_together declared demands described terms }
 {
     AddTask {
         worker: declared.worker,

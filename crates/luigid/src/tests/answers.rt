@@ -26,7 +26,11 @@ fn a_full_scheduler_and_a_chosen_name_are_told(rt: HostRuntime) -> Result<(), Fa
     let name = Name::from(Text::copied(alloc, CHOSEN)?);
     let refusal = Refusal::WrongKind(ArgumentName::from(name));
     let mut sink = MemorySink::new(alloc, 4096, NoFaults);
-    assert!(rt; Said::NotCalled(NoCall::Refused(refusal)).say(&mut sink).is_ok());
+    assert!(rt;
+        Said::NotCalled(NoCall::Refused(refusal))
+            .say(&mut sink)
+            .is_ok()
+    );
     assert_eq!(rt; sink.bytes(), REFUSED);
     Ok(())
 }

@@ -1,4 +1,3 @@
-use Rattle.std.proofs.Common.{rules}
 use Rattle.lg_calls.proofs.CallLemmas.{answers_request}
 use Rattle.lg_calls.proofs.call.requested.Goals as goal
 

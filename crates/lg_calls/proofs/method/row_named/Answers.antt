@@ -1,11 +1,11 @@
-use Rattle.std.proofs.Common.{◌≡◌, ℕ, Bool, Bor, List, map, Option, option_map, rules, tests, refl, sym, ap, ◌∙◌}
+use Rattle.std.proofs.Common.{◌≡◌, ℕ, Bool, Bor, List, map, Option, option_map, rules, tests, refl, ap, ◌∙◌}
 use Rattle.std.specs.List.{find}
 use Rattle.std.specs.Slice.Iter.{iter_rest}
 use Rattle.std.specs.Str.{bytes_eq}
 use Rattle.std.proofs.lemmas.Iterator.{YieldsList-from_slice}
 use Rattle.std.proofs.lemmas.Iterator.Search.{find_from_yields_List}
 use Rattle.lg_calls.specs.declared.method.Method.{Method}
-use Rattle.lg_calls.specs.Method.{MethodRow, methods, row_named}
+use Rattle.lg_calls.specs.Method.{MethodRow, methods}
 use Rattle.lg_calls.proofs.MethodLemmas.{find-map, option_map-option_map}
 use Rattle.lg_calls.proofs.method.row_named.Goals as goal
 

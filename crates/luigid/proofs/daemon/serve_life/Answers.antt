@@ -1,7 +1,7 @@
 use Rattle.std.proofs.Common.{◌≡◌, ◌∙◌, ap}
 use Rattle.lg_calls.specs.State.{empty_state}
 use Rattle.luigid.proofs.Audits.{begun_is_open}
-use Rattle.luigid.proofs.Runs.{served_life, untouched_all_back}
+use Rattle.luigid.proofs.Runs.{served_life}
 use Rattle.luigid.proofs.daemon.serve_life.Goals as goal
 
 pub ends-requires-clause-open : goal.ends-requires-clause-open

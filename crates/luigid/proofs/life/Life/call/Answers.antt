@@ -1,4 +1,4 @@
-use Rattle.std.proofs.Common.{◌≡◌, sym, ◌∙◌, ap, ◌||◌, arith}
+use Rattle.std.proofs.Common.{sym, ◌∙◌, ap, ◌||◌, arith}
 use Rattle.lg_calls.specs.Request.{is_stop}
 use Rattle.lg_desk.proofs.CallerLemmas.{good-push, open-push, marked-push, counted-push}
 use Rattle.luigid.proofs.life.Life.call.Goals as goal

@@ -1,10 +1,9 @@
-use Rattle.std.proofs.Common.{arith, ◌≡◌, ◌≤◌, ◌<◌, ◌^◌, ℕ, Bool, true, false, Option, Some, None, sym, subst, if◌then◌else◌}
+use Rattle.std.proofs.Common.{arith, ◌≤◌, Bool, true, false, Option, Some, None, sym, subst, if◌then◌else◌}
 use Rattle.std.specs.Prelude.{is_none, ◌||◌}
 use Rattle.lg_base.specs.declared.moment.Moment.{Moment}
 use Rattle.lg_calls.specs.declared.state.State.{State}
-use Rattle.lg_calls.specs.declared.request.Request.{Request}
-use Rattle.lg_calls.specs.Pruning.{pruned, pruned_if_due, is_due, asks_for_pruning}
-use Rattle.lg_calls.specs.Valid.{NotLater, IsValidState}
+use Rattle.lg_calls.specs.Pruning.{pruned, is_due, asks_for_pruning}
+use Rattle.lg_calls.specs.Valid.{NotLater}
 use Rattle.lg_calls.proofs.CallerLemmas.{step_by, state-rise}
 use Rattle.luigid.proofs.limits.LimitsEngine.step.Goals as goal
 

@@ -19,4 +19,4 @@ returns-in_err-terms-clause-read c =
 
 pub returns-clause-read : goal.returns-clause-read
 returns-clause-read c =
-    then_reads _ _ _ _ _ _ _ c.in_ok-declared.ensures (then_reads _ _ _ _ _ _ _ c.in_ok-demands.ensures (then_reads _ _ _ _ _ _ _ c.in_ok-described.ensures.read (then_reads _ _ _ _ _ _ _ c.in_ok-terms.ensures.read (done_reads _ _ _ c.joined.ensures))))
+    then_reads _ _ _ _ _ _ _ c.in_ok-declared.ensures (then_reads _ _ _ _ _ _ _ c.in_ok-demands.ensures (then_reads _ _ _ _ _ _ _ c.in_ok-described.ensures.read (then_reads _ _ _ _ _ _ _ c.in_ok-terms.ensures.read (done_reads _ _ _ c.put_together.ensures))))
