@@ -4,7 +4,7 @@ use crate::{Method, requested};
 use std::test::Fail;
 
 /// Payloads that are read, and the requests that they make as they show.
-const READ: [(Method, &str, &str); 31] = [
+static READ: [(Method, &str, &str); 31] = [
     (
         Method::CountPending,
         r#"{"worker":"w","other":1}"#,
@@ -196,8 +196,8 @@ const READ: [(Method, &str, &str); 31] = [
 
 #[test]
 fn each_method_reads_its_arguments(rt: HostRuntime) -> Result<(), Fail> {
-    for (method, payload, request) in READ {
-        let answer = requested(rt.alloc(), method, payload);
+    for (method, payload, request) in &READ {
+        let answer = requested(rt.alloc(), *method, payload);
         let shown = format!(in rt.alloc(); "{answer:?}")?;
         let expected = format!(in rt.alloc(); "Ok({request})")?;
         assert_eq!(rt; shown.as_str(), expected.as_str(), "{payload}");

@@ -5,7 +5,7 @@ use crate::{Method, PayloadFault, requested};
 use std::test::Fail;
 
 /// Payloads that are refused, and the words of their refusals.
-const REFUSED: [(Method, &[(&str, &str)]); 21] = [
+static REFUSED: [(Method, &[(&str, &str)]); 21] = [
     (
         Method::CountPending,
         &[
@@ -361,9 +361,9 @@ const REFUSED: [(Method, &[(&str, &str)]); 21] = [
 
 #[test]
 fn each_method_tells_its_first_refusal(rt: HostRuntime) -> Result<(), Fail> {
-    for (method, rows) in REFUSED {
-        for (payload, expected) in rows {
-            let answer = requested(rt.alloc(), method, payload);
+    for (method, rows) in &REFUSED {
+        for (payload, expected) in *rows {
+            let answer = requested(rt.alloc(), *method, payload);
             let (words, name) = match &answer {
                 Err(PayloadFault::Refused(refusal)) => refusal.words(),
                 _ => ("", ""),
