@@ -100,3 +100,43 @@ impl Journal {
         self.entries.pop()
     }
 }
+
+#[cfg(test)]
+mod tests {
+    use super::*;
+    use std::test::Fail;
+
+    fn stop_at(nth: u64) -> Entry {
+        Entry {
+            pass: 3,
+            who: CallName {
+                lane: 3,
+                connection: 5,
+                nth,
+                size: 2,
+            },
+            now: Moment(nth),
+            request: Request::Stop,
+        }
+    }
+
+    #[test]
+    fn keeps_its_entries_in_order(rt: HostRuntime) -> Result<(), Fail> {
+        let mut journal = Journal::new(rt.alloc());
+        assert!(rt; journal.is_empty());
+        for nth in 0..3 {
+            journal.enter(stop_at(nth))?;
+        }
+        assert_eq!(rt; journal.len(), 3);
+        let newest = journal.withdraw();
+        assert!(rt; newest.is_some_and(|entry| entry.who.nth == 2));
+        for (entry, nth) in journal.entries().iter().zip(0..) {
+            assert_eq!(rt;
+                (entry.pass, entry.who.nth, entry.now),
+                (3, nth, Moment(nth))
+            );
+        }
+        assert_eq!(rt; journal.len(), 2);
+        Ok(())
+    }
+}
