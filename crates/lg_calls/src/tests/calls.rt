@@ -1,12 +1,12 @@
 //! Calls by the name of their method and their payload.
 
-use crate::{Method, request_of, requested};
-use lg_base::Text;
+use super::{answer_by_name, answer_to};
+use crate::Method;
 use std::test::Fail;
 
 /// Payloads, and what comes of them as it shows: of fields of one name the last counts, and a method without arguments looks
 /// at its payload all the same.
-const PAYLOADS: [(Method, &str, &str); 8] = [
+static PAYLOADS: [(Method, &str, &str); 8] = [
     (Method::Ping, "[]", "Err(Refused(NotJson))"),
     (Method::Pause, "[]", "Err(Refused(NotJson))"),
     (Method::Pause, "", "Err(Refused(NotJson))"),
@@ -35,16 +35,15 @@ const PAYLOADS: [(Method, &str, &str); 8] = [
 
 #[test]
 fn payloads_make_requests(rt: HostRuntime) -> Result<(), Fail> {
-    for (method, payload, expected) in PAYLOADS {
-        let answer = requested(rt.alloc(), method, payload);
-        let shown = format!(in rt.alloc(); "{answer:?}")?;
-        assert_eq!(rt; shown.as_str(), expected, "{payload}");
+    for (method, payload, expected) in &PAYLOADS {
+        let shown = answer_to(rt.alloc(), *method, payload)?;
+        assert_eq!(rt; shown.as_str(), *expected, "{payload}");
     }
     Ok(())
 }
 
 /// Names and payloads, and what comes of them as it shows: the payload is looked at last.
-const CALLS: [(&str, &str, &str); 6] = [
+static CALLS: [(&str, &str, &str); 6] = [
     ("nope", "[", "Err(UnknownMethod)"),
     ("get_work", "[", "Err(NotBuilt)"),
     ("get_work", r#"{"worker":"w"}"#, "Err(NotBuilt)"),
@@ -59,12 +58,9 @@ const CALLS: [(&str, &str, &str); 6] = [
 
 #[test]
 fn the_payload_is_looked_at_last(rt: HostRuntime) -> Result<(), Fail> {
-    for (name, payload, expected) in CALLS {
-        let method = Text::copied(rt.alloc(), name)?;
-        let text = Text::copied(rt.alloc(), payload)?;
-        let answer = request_of(rt.alloc(), &method, &text);
-        let shown = format!(in rt.alloc(); "{answer:?}")?;
-        assert_eq!(rt; shown.as_str(), expected, "{name} {payload}");
+    for (name, payload, expected) in &CALLS {
+        let shown = answer_by_name(rt.alloc(), name, payload)?;
+        assert_eq!(rt; shown.as_str(), *expected, "{name} {payload}");
     }
     Ok(())
 }

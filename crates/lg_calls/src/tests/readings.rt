@@ -1,6 +1,7 @@
 //! What each method reads: every argument given, and what stands for those that aren't.
 
-use crate::{Method, requested};
+use super::answer_to;
+use crate::Method;
 use std::test::Fail;
 
 /// Payloads that are read, and the requests that they make as they show.
@@ -197,8 +198,7 @@ static READ: [(Method, &str, &str); 31] = [
 #[test]
 fn each_method_reads_its_arguments(rt: HostRuntime) -> Result<(), Fail> {
     for (method, payload, request) in &READ {
-        let answer = requested(rt.alloc(), *method, payload);
-        let shown = format!(in rt.alloc(); "{answer:?}")?;
+        let shown = answer_to(rt.alloc(), *method, payload)?;
         let expected = format!(in rt.alloc(); "Ok({request})")?;
         assert_eq!(rt; shown.as_str(), expected.as_str(), "{payload}");
     }

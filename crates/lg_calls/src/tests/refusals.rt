@@ -1,7 +1,8 @@
 //! What each method refuses: an argument that has to be there and is missing, of another kind, or out of range. Of two faults
 //! the first counts, in the order in which the method reads its arguments.
 
-use crate::{Method, PayloadFault, requested};
+use super::refusal_of;
+use crate::Method;
 use std::test::Fail;
 
 /// Payloads that are refused, and the words of their refusals.
@@ -363,12 +364,7 @@ static REFUSED: [(Method, &[(&str, &str)]); 21] = [
 fn each_method_tells_its_first_refusal(rt: HostRuntime) -> Result<(), Fail> {
     for (method, rows) in &REFUSED {
         for (payload, expected) in *rows {
-            let answer = requested(rt.alloc(), *method, payload);
-            let (words, name) = match &answer {
-                Err(PayloadFault::Refused(refusal)) => refusal.words(),
-                _ => ("", ""),
-            };
-            let told = format!(in rt.alloc(); "{words}{name}")?;
+            let told = refusal_of(rt.alloc(), *method, payload)?;
             assert_eq!(rt; told.as_str(), *expected, "{payload}");
         }
     }
