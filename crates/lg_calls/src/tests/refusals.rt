@@ -3,10 +3,11 @@
 
 use super::refusal_of;
 use crate::Method;
+use std::process::Abort;
 use std::test::Fail;
 
-/// Payloads that are refused, and the words of their refusals.
-static REFUSED: [(Method, &[(&str, &str)]); 21] = [
+/// Methods of one argument.
+static REFUSED_OF_ONE_ARGUMENT: [(Method, &[(&str, &str)]); 12] = [
     (
         Method::CountPending,
         &[
@@ -88,6 +89,10 @@ static REFUSED: [(Method, &[(&str, &str)]); 21] = [
         Method::WorkerList,
         &[(r#"{"include_running":0}"#, "wrong kind include_running")],
     ),
+];
+
+/// Methods that set something.
+static REFUSED_OF_SETTERS: [(Method, &[(&str, &str)]); 4] = [
     (
         Method::SetTaskProgressPercentage,
         &[
@@ -145,6 +150,10 @@ static REFUSED: [(Method, &[(&str, &str)]); 21] = [
             (r#"{"b":4294967296,"a":1.5}"#, "wrong kind a"),
         ],
     ),
+];
+
+/// Methods of workers, and the list of tasks.
+static REFUSED_OF_WORKERS: [(Method, &[(&str, &str)]); 4] = [
     (
         Method::GetWork,
         &[
@@ -246,127 +255,160 @@ static REFUSED: [(Method, &[(&str, &str)]); 21] = [
             ),
         ],
     ),
-    (
-        Method::AddTask,
-        &[
-            (r#"{"task_id":1}"#, "missing worker"),
-            (r#"{"status":1,"worker":"w"}"#, "missing task_id"),
-            (r#"{"task_id":1,"worker":2}"#, "wrong kind worker"),
-            (
-                r#"{"status":1,"task_id":2,"worker":"w"}"#,
-                "wrong kind task_id",
-            ),
-            (
-                r#"{"status":1,"task_id":"t","worker":"w"}"#,
-                "wrong kind status",
-            ),
-            (
-                r#"{"runnable":1,"status":"BATCH_RUNNING","task_id":"t","worker":"w"}"#,
-                "out of range status",
-            ),
-            (
-                r#"{"status":"","task_id":"t","worker":"w"}"#,
-                "out of range status",
-            ),
-            (
-                r#"{"deps":1,"runnable":1,"task_id":"t","worker":"w"}"#,
-                "wrong kind runnable",
-            ),
-            (
-                r#"{"deps":"d","new_deps":1,"task_id":"t","worker":"w"}"#,
-                "wrong kind deps",
-            ),
-            (
-                r#"{"expl":1,"new_deps":[1],"task_id":"t","worker":"w"}"#,
-                "wrong kind new_deps",
-            ),
-            (
-                r#"{"expl":[],"resources":1,"task_id":"t","worker":"w"}"#,
-                "wrong kind expl",
-            ),
-            (
-                r#"{"priority":1.5,"resources":{"r":null},"task_id":"t","worker":"w"}"#,
-                "wrong kind resources",
-            ),
-            (
-                r#"{"resources":{"s":"1","r":4294967296},"task_id":"t","worker":"w"}"#,
-                "out of range resources",
-            ),
-            (
-                r#"{"family":1,"priority":1.5,"task_id":"t","worker":"w"}"#,
-                "wrong kind priority",
-            ),
-            (
-                r#"{"priority":9223372036854775808,"task_id":"t","worker":"w"}"#,
-                "out of range priority",
-            ),
-            (
-                r#"{"family":1,"module":1,"task_id":"t","worker":"w"}"#,
-                "wrong kind family",
-            ),
-            (
-                r#"{"module":1,"params":1,"task_id":"t","worker":"w"}"#,
-                "wrong kind module",
-            ),
-            (
-                r#"{"accepts_messages":1,"params":{"p":1},"task_id":"t","worker":"w"}"#,
-                "wrong kind params",
-            ),
-            (
-                r#"{"params":[["p","1"]],"task_id":"t","worker":"w"}"#,
-                "wrong kind params",
-            ),
-            (
-                r#"{"accepts_messages":1,"assistant":1,"task_id":"t","worker":"w"}"#,
-                "wrong kind accepts_messages",
-            ),
-            (
-                r#"{"assistant":1,"tracking_url":1,"task_id":"t","worker":"w"}"#,
-                "wrong kind assistant",
-            ),
-            (
-                r#"{"batchable":1,"tracking_url":1,"task_id":"t","worker":"w"}"#,
-                "wrong kind tracking_url",
-            ),
-            (
-                r#"{"batch_id":1,"batchable":1,"task_id":"t","worker":"w"}"#,
-                "wrong kind batchable",
-            ),
-            (
-                r#"{"batch_id":1,"retry_policy_dict":1,"task_id":"t","worker":"w"}"#,
-                "wrong kind batch_id",
-            ),
-            (
-                r#"{"retry_policy_dict":[],"task_id":"t","worker":"w"}"#,
-                "wrong kind retry_policy_dict",
-            ),
-            (
-                r#"{"retry_policy_dict":{"retry_count":"1"},"task_id":"t","worker":"w"}"#,
-                "wrong kind retry_policy_dict",
-            ),
-            (
-                r#"{"retry_policy_dict":{"disable_window":1000000000001},"task_id":"t","worker":"w"}"#,
-                "out of range retry_policy_dict",
-            ),
-            (
-                r#"{"retry_policy_dict":{"disable_hard_timeout":1.5,"retry_count":-1},"task_id":"t","worker":"w"}"#,
-                "out of range retry_policy_dict",
-            ),
-            (
-                r#"{"retry_policy_dict":{"disable_hard_timeout":1.5,"disable_window":-1},"task_id":"t","worker":"w"}"#,
-                "wrong kind retry_policy_dict",
-            ),
-        ],
-    ),
 ];
 
-#[test]
-fn each_method_tells_its_first_refusal(rt: HostRuntime) -> Result<(), Fail> {
-    for (method, rows) in &REFUSED {
+/// The first arguments of `add_task`.
+static REFUSED_OF_ADD_TASK: [(Method, &[(&str, &str)]); 1] = [(
+    Method::AddTask,
+    &[
+        (r#"{"task_id":1}"#, "missing worker"),
+        (r#"{"status":1,"worker":"w"}"#, "missing task_id"),
+        (r#"{"task_id":1,"worker":2}"#, "wrong kind worker"),
+        (
+            r#"{"status":1,"task_id":2,"worker":"w"}"#,
+            "wrong kind task_id",
+        ),
+        (
+            r#"{"status":1,"task_id":"t","worker":"w"}"#,
+            "wrong kind status",
+        ),
+        (
+            r#"{"runnable":1,"status":"BATCH_RUNNING","task_id":"t","worker":"w"}"#,
+            "out of range status",
+        ),
+        (
+            r#"{"status":"","task_id":"t","worker":"w"}"#,
+            "out of range status",
+        ),
+        (
+            r#"{"deps":1,"runnable":1,"task_id":"t","worker":"w"}"#,
+            "wrong kind runnable",
+        ),
+        (
+            r#"{"deps":"d","new_deps":1,"task_id":"t","worker":"w"}"#,
+            "wrong kind deps",
+        ),
+        (
+            r#"{"expl":1,"new_deps":[1],"task_id":"t","worker":"w"}"#,
+            "wrong kind new_deps",
+        ),
+        (
+            r#"{"expl":[],"resources":1,"task_id":"t","worker":"w"}"#,
+            "wrong kind expl",
+        ),
+        (
+            r#"{"priority":1.5,"resources":{"r":null},"task_id":"t","worker":"w"}"#,
+            "wrong kind resources",
+        ),
+        (
+            r#"{"resources":{"s":"1","r":4294967296},"task_id":"t","worker":"w"}"#,
+            "out of range resources",
+        ),
+        (
+            r#"{"family":1,"priority":1.5,"task_id":"t","worker":"w"}"#,
+            "wrong kind priority",
+        ),
+    ],
+)];
+
+/// The later arguments of `add_task`.
+static REFUSED_OF_ADD_TASK_LATER: [(Method, &[(&str, &str)]); 1] = [(
+    Method::AddTask,
+    &[
+        (
+            r#"{"priority":9223372036854775808,"task_id":"t","worker":"w"}"#,
+            "out of range priority",
+        ),
+        (
+            r#"{"family":1,"module":1,"task_id":"t","worker":"w"}"#,
+            "wrong kind family",
+        ),
+        (
+            r#"{"module":1,"params":1,"task_id":"t","worker":"w"}"#,
+            "wrong kind module",
+        ),
+        (
+            r#"{"accepts_messages":1,"params":{"p":1},"task_id":"t","worker":"w"}"#,
+            "wrong kind params",
+        ),
+        (
+            r#"{"params":[["p","1"]],"task_id":"t","worker":"w"}"#,
+            "wrong kind params",
+        ),
+        (
+            r#"{"accepts_messages":1,"assistant":1,"task_id":"t","worker":"w"}"#,
+            "wrong kind accepts_messages",
+        ),
+        (
+            r#"{"assistant":1,"tracking_url":1,"task_id":"t","worker":"w"}"#,
+            "wrong kind assistant",
+        ),
+        (
+            r#"{"batchable":1,"tracking_url":1,"task_id":"t","worker":"w"}"#,
+            "wrong kind tracking_url",
+        ),
+        (
+            r#"{"batch_id":1,"batchable":1,"task_id":"t","worker":"w"}"#,
+            "wrong kind batchable",
+        ),
+        (
+            r#"{"batch_id":1,"retry_policy_dict":1,"task_id":"t","worker":"w"}"#,
+            "wrong kind batch_id",
+        ),
+        (
+            r#"{"retry_policy_dict":[],"task_id":"t","worker":"w"}"#,
+            "wrong kind retry_policy_dict",
+        ),
+        (
+            r#"{"retry_policy_dict":{"retry_count":"1"},"task_id":"t","worker":"w"}"#,
+            "wrong kind retry_policy_dict",
+        ),
+        (
+            r#"{"retry_policy_dict":{"disable_window":1000000000001},"task_id":"t","worker":"w"}"#,
+            "out of range retry_policy_dict",
+        ),
+        (
+            r#"{"retry_policy_dict":{"disable_hard_timeout":1.5,"retry_count":-1},"task_id":"t","worker":"w"}"#,
+            "out of range retry_policy_dict",
+        ),
+        (
+            r#"{"retry_policy_dict":{"disable_hard_timeout":1.5,"disable_window":-1},"task_id":"t","worker":"w"}"#,
+            "wrong kind retry_policy_dict",
+        ),
+    ],
+)];
+
+/// Compares what is said of each payload with the words of its refusal.
+fn assert_refused<R: AllocGlobal + Abort>(
+    rt: &R,
+    table: &[(Method, &[(&str, &str)])],
+) -> Result<(), Fail> {
+    for (method, rows) in table {
         for (payload, expected) in *rows {
             let told = refusal_of(rt.alloc(), *method, payload)?;
             assert_eq!(rt; told.as_str(), *expected, "{payload}");
         }
     }
     Ok(())
+}
+
+#[test]
+fn methods_of_one_argument_tell_their_first_refusal(rt: HostRuntime) -> Result<(), Fail> {
+    assert_refused(&rt, &REFUSED_OF_ONE_ARGUMENT)
+}
+
+#[test]
+fn setters_tell_their_first_refusal(rt: HostRuntime) -> Result<(), Fail> {
+    assert_refused(&rt, &REFUSED_OF_SETTERS)
+}
+
+#[test]
+fn methods_of_workers_tell_their_first_refusal(rt: HostRuntime) -> Result<(), Fail> {
+    assert_refused(&rt, &REFUSED_OF_WORKERS)
+}
+
+#[test]
+fn add_task_tells_its_first_refusal(rt: HostRuntime) -> Result<(), Fail> {
+    assert_refused(&rt, &REFUSED_OF_ADD_TASK)?;
+    assert_refused(&rt, &REFUSED_OF_ADD_TASK_LATER)
 }
