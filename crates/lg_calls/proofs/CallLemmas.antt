@@ -20,7 +20,7 @@ asks_reads request arguments before after (Err fault) result read is = rw is (re
 -- the answer is the request that is due
 pub answers_request : (method : Method) (payload : List ℕ) (before after : Arguments) (result : Result Request PayloadFault)
     → fields_in payload ≡ Ok (left_in before) → Reads (reading_of method) before after result → Answers result (request_in method payload)
-unfolding Reads
+unfolding Reads request_in
 answers_request method payload before after (Ok request) fields read = rw (fields, read) refl
 answers_request method payload before after (Err (Refused refusal)) fields read = rw (fields, read) refl
 answers_request method payload before after (Err NoMemory) fields read = tt

@@ -1,30 +1,30 @@
 -- A step by its parts.
 use Rattle.std.proofs.Common.{◌≡◌, ℕ, ◌≤◌, ℤ, pos, negsuc, Bool, true, false, List, refl, sym, ◌∙◌, ap, arith, Option}
-use Rattle.std.specs.Prelude.{max, is_none, ◌||◌, if◌then◌else◌}
+use Rattle.std.specs.Prelude.{max, if◌then◌else◌, Some, None}
 use Rattle.lg_base.specs.Amounts.{AmountsByName}
 use Rattle.lg_base.specs.declared.moment.Moment.{Moment}
 use Rattle.lg_json.specs.Tree.{Tree}
 use Rattle.lg_calls.specs.declared.request.Request.{Request}
-use Rattle.lg_calls.specs.declared.request.Request.TheVariants.{UpdateResource, Stop}
+use Rattle.lg_calls.specs.declared.request.Request.TheVariants.{UpdateResource}
 use Rattle.lg_calls.specs.declared.state.State.{State}
 use Rattle.lg_calls.specs.Methods.UpdateResource.{limit_set}
-use Rattle.lg_calls.specs.Outcome.{Outcome, replied, full}
-use Rattle.lg_calls.specs.Pruning.{pruned, pruned_if_due, is_due, asks_for_pruning}
-use Rattle.lg_calls.specs.Step.{applied, begun, unless_full, step}
+use Rattle.lg_calls.specs.Outcome.{Outcome, replied, full, not_built}
+use Rattle.lg_calls.specs.Pruning.{pruned, pruned_since, pruned_if_due, is_due, asks_for_pruning}
+use Rattle.lg_calls.specs.Step.{applied, begun, where_replied, step}
 
--- the state at a moment
-abbrev at_moment : State → Moment → State
-at_moment s now = record s { moment = now }
-
--- whether it is pruned doesn't hang on its moment, and changes the last pruning alone
-due_or_not : (s : State) (now : Moment) (due : Bool)
-    → (if due then pruned (at_moment s now) now.0 else at_moment s now) ≡ record s { moment = now; pruned = (if due then pruned s now.0 else s).pruned }
-due_or_not s now true = refl
-due_or_not s now false = refl
+-- what a pruning leaves to see: the moment is as it was, and only the last pruning may be another
+prunes_by : (last : Option Moment) (s : State) (now : Moment) (handed : ℕ) (asked : Bool)
+    → pruned_since last (record s { moment = now }) handed asked ≡ record s { moment = now; pruned = (pruned_since last s handed asked).pruned }
+prunes_by None s now handed asked = refl
+prunes_by (Some last) s now handed asked = by_choice (is_due last handed asked) where
+  by_choice : (due : Bool)
+      → (if due then pruned (record s { moment = now }) handed else record s { moment = now }) ≡ record s { moment = now; pruned = (if due then pruned s handed else s).pruned }
+  by_choice true = refl
+  by_choice false = refl
 
 pub begun_by : (s : State) (handed : ℕ) (request : Request) (now : Moment) → now.0 ≡ max s.moment.0 handed
     → begun s handed request ≡ record s { moment = now; pruned = (pruned_if_due s now.0 request).pruned }
-begun_by s handed request now is = rw (← is) (due_or_not s now (is_none s.pruned || is_due s.pruned now.0 (asks_for_pruning s.settings request)))
+begun_by s handed request now is = rw (← is) (prunes_by s.pruned s now now.0 (asks_for_pruning s.settings request))
 
 abbrev with_last : State → Moment → AmountsByName → Tree → Option Moment → State × Outcome
 with_last s now limits tree last = (record s { moment = now; pruned = last; limits = limits }, replied tree)
@@ -35,8 +35,8 @@ pub step_by : (s : State) (handed : ℕ) (request : Request) (now : Moment) (las
     → ((state : State) → state.limits ≡ s.limits → applied state request ≡ (record state { limits = limits }, replied tree))
     → step s handed request ≡ (record s { moment = now; pruned = last; limits = limits }, replied tree)
 step_by s handed request now last limits tree is last_is does =
-    ap (λ state. unless_full s (applied state request)) (begun_by s handed request now is)
-    ∙ ap (unless_full s) (does (record s { moment = now; pruned = (pruned_if_due s now.0 request).pruned }) refl)
+    ap (λ state. where_replied s (applied state request)) (begun_by s handed request now is)
+    ∙ ap (where_replied s) (does (record s { moment = now; pruned = (pruned_if_due s now.0 request).pruned }) refl)
     ∙ ap (with_last s now limits tree) (sym last_is)
 
 -- what a request does leaves the moment
@@ -47,39 +47,27 @@ applied-moment s (UpdateResource ask) = limit_set-moment s ask.resource ask.amou
   limit_set-moment s resource (negsuc n) = refl
 applied-moment s _ = refl
 
-pruned-moment : (s : State) (now : Moment) (due : Bool) → (if due then pruned (at_moment s now) now.0 else at_moment s now).moment ≡ now
-pruned-moment s now true = refl
-pruned-moment s now false = refl
-
 begun-moment : (s : State) (handed : ℕ) (request : Request) → (begun s handed request).moment.0 ≡ max s.moment.0 handed
 begun-moment s handed request =
     let now : Moment = record { 0 = max s.moment.0 handed } in
-    ap (λ (m : Moment). m.0) (pruned-moment s now (is_none s.pruned || is_due s.pruned now.0 (asks_for_pruning s.settings request)))
+    ap (λ (state : State). state.moment.0) (begun_by s handed request now refl)
 
 -- a step by what its request does
-rises_by : (s : State) (after : State × Outcome) → s.moment.0 ≤ after.0.moment.0 → s.moment.0 ≤ (unless_full s after).0.moment.0
+rises_by : (s : State) (after : State × Outcome) → s.moment.0 ≤ after.0.moment.0 → s.moment.0 ≤ (where_replied s after).0.moment.0
 rises_by s (after, replied tree) rises = rises
 rises_by s (after, full tasks) rises = omega arith
+rises_by s (after, not_built) rises = omega arith
 
 pub step-rises : (s : State) (handed : ℕ) (request : Request) → s.moment.0 ≤ (step s handed request).0.moment.0
 step-rises s handed request =
     rises_by s (applied (begun s handed request) request)
     (omega (arith, ap (λ (m : Moment). m.0) (applied-moment (begun s handed request) request), begun-moment s handed request))
 
-stays_by : (s : State) (after : State × Outcome) (tasks : ℕ) → (unless_full s after).1 ≡ full tasks → (unless_full s after).0 ≡ s
+stays_by : (s : State) (after : State × Outcome) (tasks : ℕ) → (where_replied s after).1 ≡ full tasks → (where_replied s after).0 ≡ s
 stays_by s (after, replied tree) tasks is = absurd (cc)
 stays_by s (after, full others) tasks is = refl
+stays_by s (after, not_built) tasks is = refl
 
 -- a scheduler that is full stays as it was
 pub full-stays : (s : State) (handed : ℕ) (request : Request) (tasks : ℕ) → (step s handed request).1 ≡ full tasks → (step s handed request).0 ≡ s
 full-stays s handed request tasks is = stays_by s (applied (begun s handed request) request) tasks is
-
-limits_by : (s : State) (now : Moment) (due : Bool) → (if due then pruned (at_moment s now) now.0 else at_moment s now).limits ≡ s.limits
-limits_by s now true = refl
-limits_by s now false = refl
-
--- a stop sets no limit
-pub stop-limits : (s : State) (handed : ℕ) → (step s handed Stop).0.limits ≡ s.limits
-stop-limits s handed =
-    let now : Moment = record { 0 = max s.moment.0 handed } in
-    limits_by s now (is_none s.pruned || is_due s.pruned now.0 (asks_for_pruning s.settings Stop))

@@ -93,7 +93,7 @@ asked_in method (Ok fields) = read_of (reading_of method fields)
 asked_in method (Err refusal) = Err refusal
 
 -- the request of a method with this payload
-abbrev pub request_in : Method → List ℕ → Result Request Refusal
+unfoldable pub request_in : Method → List ℕ → Result Request Refusal
 request_in method payload = asked_in method (fields_in payload)
 
 -- the answer is the one that is due, or memory ran out

@@ -1,5 +1,5 @@
 -- When a step prunes, and what it does. This project's own, after Luigi's central scheduler.
-use Rattle.std.specs.Prelude.{ℕ, ◌+◌, ◌||◌, nat_le, if◌then◌else◌, Bool, true, false, is_none, Option, Some, None}
+use Rattle.std.specs.Prelude.{ℕ, ◌+◌, ◌||◌, nat_le, if◌then◌else◌, Bool, true, false, Option, Some, None}
 use Rattle.lg_base.specs.declared.moment.Moment.{Moment}
 use Rattle.lg_calls.specs.declared.request.Request.{Request}
 use Rattle.lg_calls.specs.declared.request.Request.TheVariants.{GetWork, Prune}
@@ -16,17 +16,24 @@ asks_for_pruning settings Prune = true
 asks_for_pruning settings (GetWork ask) = settings.prune_on_get_work
 asks_for_pruning settings _ = false
 
--- A pruning is due where the interval has passed since the last one, or the request asks for it. A state without a last
--- pruning isn't pruned.
-abbrev pub is_due : Option Moment → ℕ → Bool → Bool
-is_due None now asked = false
-is_due (Some last) now asked = nat_le (last.0 + prune_interval) now || asked
+-- a pruning is due where the interval has passed since the last one, or the request asks for it
+abbrev pub is_due : Moment → ℕ → Bool → Bool
+is_due last now asked = nat_le (last.0 + prune_interval) now || asked
 
--- what a pruning at a moment forgets: its moment becomes that of the last pruning
+-- the moment is noted as that of the last pruning; nothing is forgotten
+abbrev pub noted : State → ℕ → State
+noted state now = record state { pruned = Some (record { 0 = now }) }
+
+-- a pruning: in this build it forgets nothing, and its moment is noted
 abbrev pub pruned : State → ℕ → State
-pruned state now = record state { pruned = Some (record { 0 = now }) }
+pruned state now = noted state now
 
--- the state at a moment, pruned if that is due; the first step notes its moment as if it had pruned
+-- Where nothing was pruned yet the moment is noted, and nothing is pruned. Else the state is pruned where that is due since
+-- the last pruning.
+abbrev pub pruned_since : Option Moment → State → ℕ → Bool → State
+pruned_since None state now asked = noted state now
+pruned_since (Some last) state now asked = if is_due last now asked then pruned state now else state
+
+-- the state at a moment, pruned if that is due
 abbrev pub pruned_if_due : State → ℕ → Request → State
-pruned_if_due state now request =
-    if is_none state.pruned || is_due state.pruned now (asks_for_pruning state.settings request) then pruned state now else state
+pruned_if_due state now request = pruned_since state.pruned state now (asks_for_pruning state.settings request)

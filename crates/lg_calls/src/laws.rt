@@ -1,13 +1,18 @@
 //! What the definitions come to, for those who call and for those who follow a task through the steps.
-ghost use Rattle.std.specs.Prelude.{◌≡◌, ℕ, List, All, Contains, Some, None, map, Bool, IsTrue, Option, option_and_then, ◌≤◌};
+ghost use Rattle.std.specs.Prelude.{◌≡◌, ℕ, List, All, Contains, Some, None, map, Bool, IsTrue, Option, option_and_then, ◌≤◌, Err, codes};
+ghost use Rattle.serde_json.specs.Data.{Members};
+ghost use Rattle.lg_json.specs.Fields.{text_in};
+ghost use Rattle.lg_calls.specs.declared.refusal.Refusal.{Refusal};
 ghost use Rattle.lg_calls.specs.declared.request.Request.{Request};
 ghost use Rattle.lg_calls.specs.declared.request.Request.TheVariants.{Stop};
 ghost use Rattle.lg_calls.specs.declared.state.State.{State};
 ghost use Rattle.lg_calls.specs.Outcome.{full};
-ghost use Rattle.lg_calls.specs.Step.{step};
+ghost use Rattle.lg_calls.specs.Step.{begun, step};
 ghost use Rattle.lg_calls.specs.Laws.{KeepsIds, ChangesOne, AddsOne, found_where_kept, IdsStayDistinct, NumbersKeepRising};
 ghost use Rattle.lg_calls.specs.Look.{tasks_at, task_at, place_of};
 ghost use Rattle.lg_calls.specs.Method.{methods, row_named};
+ghost use Rattle.lg_calls.specs.Methods.UpdateResource.{update_resource};
+ghost use Rattle.lg_calls.specs.Reading.{needed};
 ghost use Rattle.lg_calls.specs.Task.{Task};
 ghost use Rattle.lg_calls.specs.Tasks.{have_distinct_ids, have_rising_numbers, find_task, keep_tasks};
 
@@ -61,7 +66,13 @@ pub fn a_full_scheduler_stays()
         → (step s now request).1 ≡ full tasks → (step s now request).0 ≡ s }
 {}
 
-/// A stop sets no limit.
-pub fn a_stop_sets_nothing()
-    ensures { (s : State) (now : ℕ) → (step s now Stop).0.limits ≡ s.limits }
+/// A stop moves the state on to its moment, with the pruning that is due, and does nothing else.
+pub fn a_stop_does_nothing_else()
+    ensures { (s : State) (now : ℕ) → (step s now Stop).0 ≡ begun s now Stop }
+{}
+
+/// A limit is refused by its resource before its amount is looked at.
+pub fn the_resource_comes_first()
+    ensures { (fields : Members) (refusal : Refusal) → needed text_in (codes "resource") fields ≡ Err refusal
+        → update_resource fields ≡ Err refusal }
 {}

@@ -1,6 +1,6 @@
 //! Why a call isn't made.
-ghost use Rattle.std.specs.Prelude.{◌≡◌, ◌++◌};
-ghost use Rattle.lg_calls.specs.Refusal.{refusal_text};
+ghost use Rattle.std.specs.Prelude.{◌≡◌};
+ghost use Rattle.lg_calls.specs.Refusal.{refusal_words, refusal_name};
 ghost use Rattle.lg_calls.specs.declared.refusal.PayloadFault.TheVariants.{NoMemory as out_of_memory};
 
 use lg_base::{Name, NoMemory};
@@ -81,7 +81,8 @@ impl Refusal {
     /// The refusal in words, as two texts that stand one behind the other: fixed words, and the name of the argument. It takes no
     /// memory.
     pub fn words(&self) -> (&str, &str)
-        ensures { result.0.now ++ result.1.now ≡ refusal_text self.now }
+        ensures words { result.0.now ≡ refusal_words self.now }
+        ensures name { result.1.now ≡ refusal_name self.now }
     {
         match self {
             Refusal::NotJson => ("bad json", ""),

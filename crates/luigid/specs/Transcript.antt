@@ -1,7 +1,7 @@
 -- What a connection is answered: one response to each message, in order (RFC 9112). This project's own.
 use Rattle.std.specs.Prelude.{ℕ, Bool, true, false, List, ◌++◌, codes, decimal}
 use Rattle.lg_json.specs.Tree.{str}
-use Rattle.lg_calls.specs.Outcome.{Outcome, replied, full}
+use Rattle.lg_calls.specs.Outcome.{Outcome, replied, full, not_built}
 use Rattle.lg_http.specs.Response.{response_bytes}
 use Rattle.luigid.specs.declared.refusal.NoCall.{NoCall}
 use Rattle.luigid.specs.Refusal.{no_call_status, no_call_text}
@@ -19,10 +19,12 @@ is_last (stepped outcome mark) = mark
 is_last (not_called reason) = false
 is_last no_memory = false
 
--- the response to a call: its reply, or how many tasks the scheduler is full with
+-- the response to a call: its reply, how many tasks the scheduler is full with, or that its method isn't built (no call of
+-- such a method is ever made)
 abbrev pub outcome_response : Outcome → Bool → List ℕ
 outcome_response (replied tree) mark = response_bytes 200 tree mark
 outcome_response (full tasks) mark = response_bytes 507 (str (codes "full " ++ decimal tasks)) mark
+outcome_response not_built mark = response_bytes 501 (str (codes "not built")) mark
 
 -- the bytes of a response
 abbrev pub response_of : Answer → List ℕ

@@ -5,6 +5,7 @@ ghost use Rattle.lg_io.specs.Cause.{HasCause};
 ghost use Rattle.lg_io.specs.Door.{accept_kind, accepted, IfConn, IsFresh, HasNoLinkOut};
 ghost use Rattle.lg_io.specs.DoorSeen.{DoorSeen};
 ghost use Rattle.lg_io.specs.Link.{LinkTold};
+ghost use Rattle.lg_desk.specs.Replay.{replay};
 ghost use Rattle.luigid.specs.declared.audit.LifeEnd.TheVariants.{Doors};
 ghost use Rattle.luigid.specs.Headline.{EndsBy, HasLane};
 
@@ -30,6 +31,7 @@ pub fn serve_lane<R: Wait, E: Engine, D: Door>(
     ensures served { HasLane (E.state life.old.engine) lane result life.new.journal
         record { door = D.door door.old; faults = D.faults door.old; calls = D.calls door.old }
         record { door = D.door door.new; faults = D.faults door.new; calls = D.calls door.new } }
+    ensures replayed { E.state life.new.engine ≡ replay (E.state life.old.engine) life.new.journal }
     ensures ends { EndsBy result life.new.journal }
     ensures failed { HasCause (D.faults door.old) (D.faults door.new) (result ≡ Doors) }
     ensures no_other { All (λ e. e.pass ≡ lane) life.new.journal }

@@ -58,7 +58,9 @@ fn apply(limits: &mut Amounts, request: &Request) -> Result<Reply, NoMemory>
 {
     match request {
         Request::UpdateResource(ask) => set(limits, ask),
-        _ => Ok(Reply(Out::Null)),
+        Request::Stop => Ok(Reply(Out::Null)),
+        // No call of another method is made, since none is built.
+        _ => Err(NoMemory),
     }
 }
 
@@ -92,7 +94,7 @@ fn pruned_at(state: &State, now: Moment, request: &Request) -> Option<Moment>
 /// Whether a step prunes: the interval has passed since the last pruning, or the request asks for it.
 fn is_due(last: Moment, now: Moment, settings: &Settings, request: &Request) -> bool
     requires { now.0 < 2 ^ 62 }
-    ensures { result ≡ is_due (Some last) now.0 (asks_for_pruning settings.now request.now) }
+    ensures { result ≡ is_due last now.0 (asks_for_pruning settings.now request.now) }
 {
     let asked = match request {
         Request::Prune => true,

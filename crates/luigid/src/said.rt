@@ -38,8 +38,7 @@ impl Said {
         match self {
             Said::Replied(reply, last) => respond(sink, 200, &reply.0, *last),
             Said::Full(tasks, last) => say_full(*tasks, *last, sink),
-            Said::NotCalled(NoCall::Misrouted(misrouted)) => say_misrouted(*misrouted, sink),
-            Said::NotCalled(NoCall::Refused(refusal)) => say_refused(refusal, sink),
+            Said::NotCalled(reason) => say_no_call(reason, sink),
             Said::NoMemory => respond_error(sink, 503, &["no memory"], false),
         }
     }
@@ -64,6 +63,18 @@ fn say_full<S: Sink>(tasks: u64, last: bool, sink: &mut S) -> Result<(), Failed>
     let mut digits = Buffer::new();
     let parts: [&str; 2] = ["full ", digits.format(tasks)];
     respond_error(sink, 507, &parts, last)
+}
+
+/// Writes why a message makes no call.
+fn say_no_call<S: Sink>(reason: &NoCall, sink: &mut S) -> Result<(), Failed>
+    ensures told { WritesAll (S.taken sink.old) (S.taken sink.new) (response_of (not_called reason.now)) result }
+    ensures cause { HasCause (S.faults sink.old) (S.faults sink.new) (IsErr result) }
+    ensures rest { S.rest sink.new ≡ S.rest sink.old }
+{
+    match reason {
+        NoCall::Misrouted(misrouted) => say_misrouted(*misrouted, sink),
+        NoCall::Refused(refusal) => say_refused(refusal, sink),
+    }
 }
 
 /// Writes why a message reaches no method.

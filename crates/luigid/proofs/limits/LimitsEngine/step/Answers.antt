@@ -1,8 +1,7 @@
-use Rattle.std.proofs.Common.{arith, ◌≤◌, Bool, true, false, Option, Some, None, sym, subst, if◌then◌else◌}
-use Rattle.std.specs.Prelude.{is_none, ◌||◌}
+use Rattle.std.proofs.Common.{arith, ◌≤◌, Bool, true, false, Option, Some, None, sym, subst, if◌then◌else◌, refl, ◌≡◌}
 use Rattle.lg_base.specs.declared.moment.Moment.{Moment}
 use Rattle.lg_calls.specs.declared.state.State.{State}
-use Rattle.lg_calls.specs.Pruning.{pruned, is_due, asks_for_pruning}
+use Rattle.lg_calls.specs.Pruning.{pruned, pruned_since, is_due, asks_for_pruning}
 use Rattle.lg_calls.specs.Valid.{NotLater}
 use Rattle.lg_calls.proofs.CallerLemmas.{step_by, state-rise}
 use Rattle.luigid.proofs.limits.LimitsEngine.step.Goals as goal
@@ -12,15 +11,19 @@ risen None old now rises holds = tt
 risen (Some moment) old now rises holds = omega arith
 
 -- the last pruning isn't later than the moment
-not_later : (s : State) (now : Moment) (due : Bool) → s.moment.0 ≤ now.0 → NotLater s.pruned s.moment → NotLater (if due then pruned s now.0 else s).pruned now
-not_later s now true rises holds = omega arith
-not_later s now false rises holds = risen s.pruned s.moment now rises holds
+not_later : (last : Option Moment) (s : State) (now : Moment) (asked : Bool) → last ≡ s.pruned → s.moment.0 ≤ now.0 → NotLater s.pruned s.moment
+    → NotLater (pruned_since last s now.0 asked).pruned now
+not_later None s now asked last_is rises holds = omega arith
+not_later (Some last) s now asked last_is rises holds = by_choice (is_due last now.0 asked) where
+  by_choice : (due : Bool) → NotLater (if due then pruned s now.0 else s).pruned now
+  by_choice true = omega arith
+  by_choice false = risen s.pruned s.moment now rises holds
 
 pub invariant_of-self-2 : goal.invariant_of-self-2
 invariant_of-self-2 c =
     let s = c.args.self.now.state in
     let rises : s.moment.0 ≤ c.max.result = omega arith in
-    let here = not_later s (record { 0 = c.max.result }) (is_none s.pruned || is_due s.pruned c.max.result (asks_for_pruning s.settings c.args.request.now)) rises c.args.self.now.is_valid.pruned_before in
+    let here = not_later s.pruned s (record { 0 = c.max.result }) (asks_for_pruning s.settings c.args.request.now) refl rises c.args.self.now.is_valid.pruned_before in
     record {
       is_valid = state-rise s (record { 0 = c.max.result }) _ c.apply.new.limits rises (omega arith)
           (subst (λ last. NotLater last (record { 0 = c.max.result })) (sym c.pruned_at-pruned.ensures) here) c.args.self.now.is_valid;
