@@ -16,6 +16,7 @@ pub mod Request
 pub mod RetryEntries
 pub mod Settings
 pub mod State
+pub mod Status
 pub mod Step
 pub mod Task
 pub mod TaskView
