@@ -1,6 +1,8 @@
 -- The readings of the methods, made into requests.
 use Rattle.std.proofs.Common.{◌≡◌, ℕ, List, Result, Ok, Err, refl}
-use Rattle.std.specs.Result.{MatchResult}
+use Rattle.std.specs.Result.{MatchResult, IsErrAnd}
+use Rattle.std.proofs.lemmas.Result.{err_from_is_err_and}
+use Rattle.serde_json.specs.Data.{Members}
 use Rattle.lg_calls.specs.Call.{asks, reading_of, fields_in, request_in, Answers}
 use Rattle.lg_calls.specs.Reading.{Reading, Reads, left_in}
 use Rattle.lg_calls.specs.declared.arguments.Arguments.{Arguments}
@@ -24,3 +26,16 @@ unfolding Reads request_in
 answers_request method payload before after (Ok request) fields read = rw (fields, read) refl
 answers_request method payload before after (Err (Refused refusal)) fields read = rw (fields, read) refl
 answers_request method payload before after (Err NoMemory) fields read = tt
+
+-- where the payload has no fields it makes no request
+no_fields : (method : Method) (payload : List ℕ) (fault : PayloadFault) → Answers {A = Members} (Err fault) (fields_in payload) → Answers (Err fault) (request_in method payload)
+unfolding request_in
+no_fields method payload (Refused refusal) due = rw due refl
+no_fields method payload NoMemory due = tt
+
+-- the exit of the `?` behind which the arguments are read
+pub stopped_request : (method : Method) (payload : List ℕ) (fault : PayloadFault) (result : Result Request PayloadFault)
+    → Answers {A = Members} (Err fault) (fields_in payload) → IsErrAnd result (λ told. told ≡ fault) → Answers result (request_in method payload)
+stopped_request method payload fault result due told =
+    let p = err_from_is_err_and result told in
+    rw (p.1, p.2) (no_fields method payload fault due)

@@ -2,13 +2,14 @@
 use Rattle.std.proofs.Common.{◌≡◌, ℕ, Bool, true, false, List, Option, Some, None, Result, Ok, Err, OnOk, Vec, Global, refl, sym, ap, ◌∙◌}
 use Rattle.std.specs.Result.{IsErrAnd}
 use Rattle.std.proofs.lemmas.Result.{err_from_is_err_and}
-use Rattle.serde_json.specs.Data.{Data}
+use Rattle.serde_json.specs.Data.{Data, Members}
 use Rattle.serde_json.specs.Find.{get_member}
 use Rattle.lg_json.specs.Fields.{Read, Gives, IsTakenOut, items_of}
 use Rattle.lg_json.specs.declared.fields.TakeFault.TheVariants as Take
 use Rattle.lg_calls.specs.Reading.{Reading, ◌>>=◌, read_on, done, field, present, ranged, left_in, taken_as, present_as, Reads}
 use Rattle.lg_calls.specs.declared.arguments.Arguments.{Arguments}
 use Rattle.lg_calls.specs.declared.refusal.PayloadFault.{PayloadFault}
+use Rattle.lg_calls.specs.declared.refusal.Refusal.{Refusal}
 use Rattle.lg_calls.specs.declared.refusal.Refusal.TheVariants.{OutOfRange}
 use Rattle.lg_calls.specs.declared.refusal.PayloadFault.TheVariants.{Refused, NoMemory}
 
@@ -26,6 +27,12 @@ pub refused_reads : {A B : Type 0} (first : Reading A) (next : A → Reading B) 
 unfolding ◌>>=◌ Reads
 refused_reads first next before mid after (Refused refusal) is = ap (λ r. read_on r next) is
 refused_reads first next before mid after NoMemory is = tt
+
+-- where the first refuses, its refusal is that of the whole
+pub first_refused : {A B : Type 0} (first : Reading A) (next : A → Reading B) (fields : Members) (refusal : Refusal)
+    → first fields ≡ Err refusal → (first >>= next) fields ≡ Err refusal
+unfolding ◌>>=◌
+first_refused first next fields refusal is = ap (λ r. read_on r next) is
 
 -- the exit of a `?`
 pub stopped_reads : {A B : Type 0} (first : Reading A) (next : A → Reading B) (before mid after : Arguments) (fault : PayloadFault) (result : Result B PayloadFault)
