@@ -1,6 +1,5 @@
 -- The change of a task's status, by six rules in order. This project's own, after Luigi's central scheduler.
-use Rattle.std.specs.Prelude.{ℕ, ◌+◌, Bool, true, false, not, ◌&&◌, ◌||◌, if◌then◌else◌, Option, Some, None, is_some, List}
-use Rattle.std.specs.Option.{option_map}
+use Rattle.std.specs.Prelude.{ℕ, ◌+◌, Bool, true, false, not, ◌&&◌, ◌||◌, if◌then◌else◌, Option, Some, None, is_some, option_and_then, List}
 use Rattle.lg_base.specs.declared.moment.Moment.{Moment}
 use Rattle.lg_retry.specs.Failures.{no_failures, add_failure, is_excessive}
 use Rattle.lg_calls.specs.declared.state.State.{State}
@@ -8,7 +7,7 @@ use Rattle.lg_calls.specs.declared.status.Status.{Status}
 use Rattle.lg_calls.specs.declared.status.Status.TheVariants.{Pending, Running, BatchRunning, Done, Failed, Disabled, Unknown}
 use Rattle.lg_calls.specs.Order.{is_same}
 use Rattle.lg_calls.specs.Task.{Task}
-use Rattle.lg_calls.specs.Tasks.{find_task, has_id, change_meant}
+use Rattle.lg_calls.specs.Tasks.{find_task, has_id, change_meant, change_task}
 use Rattle.lg_calls.specs.Valid.{is_running}
 
 -- two statuses are one
@@ -97,23 +96,26 @@ abbrev pub is_batch : Option (List ℕ) → Option (List ℕ) → Bool
 is_batch (Some one) (Some other) = is_same one other
 is_batch _ _ = false
 
--- another task runs in the batch of a claim
-abbrev pub runs_for : Task → Task → Bool
-runs_for claim other = is_status BatchRunning other.status && is_batch claim.batch other.batch
+-- the batch that a task takes along to another status: that of a claim
+abbrev pub batch_along : Status → Task → Option (List ℕ)
+batch_along status task = if is_claim task && not (is_status Running status) && not (is_held status task) then task.batch else None
 
--- a claim that changes to another status takes the tasks of its batch along
-abbrev pub takes_along : Status → Task → Task → Bool
-takes_along status claim other = is_claim claim && not (is_status Running status) && not (is_held status claim) && runs_for claim other
+-- a task runs in this batch, for its claim
+abbrev pub runs_in : Option (List ℕ) → Task → Bool
+runs_in batch task = is_batch batch task.batch && is_status BatchRunning task.status
 
--- a task is set to a status, with those that it takes along
-abbrev pub set_found : ℕ → Moment → Status → List Task → Option Task → List Task
-set_found delay now status tasks (Some task) = change_meant (λ other. has_id task.id other || takes_along status task other) (set_alone delay now status) tasks
-set_found delay now status tasks None = tasks
+-- who is meant: the task of an id, and those that run in the batch that goes along
+abbrev pub is_meant : List ℕ → Option (List ℕ) → Task → Bool
+is_meant id along task = has_id id task || runs_in along task
 
--- the task of an id is set to a status, at the moment of the state
+-- the batch that the task of an id takes along, if it is there and takes one
+abbrev pub along_with : Status → List ℕ → List Task → Option (List ℕ)
+along_with status id tasks = option_and_then (batch_along status) (find_task id tasks)
+
+-- the task of an id is set to a status with those that it takes along, at the moment of the state
 abbrev pub set_status : State → List ℕ → Status → State
 set_status s id status =
-    record s { tasks = set_found s.settings.retry_delay s.moment status s.tasks (find_task id s.tasks) }
+    record s { tasks = change_meant (is_meant id (along_with status id s.tasks)) (set_alone s.settings.retry_delay s.moment status) s.tasks }
 
 -- A task is enabled: all is forgotten, and it counts as failed. A disabled task gets no failure by that.
 abbrev pub enabled_alone : ℕ → Moment → Task → Task
@@ -121,4 +123,4 @@ enabled_alone delay now task = set_alone delay now Failed (forgiven task)
 
 -- the task of an id is enabled, at the moment of the state
 abbrev pub enable : State → List ℕ → State
-enable s id = record s { tasks = change_meant (has_id id) (enabled_alone s.settings.retry_delay s.moment) s.tasks }
+enable s id = record s { tasks = change_task id (enabled_alone s.settings.retry_delay s.moment) s.tasks }
