@@ -1,0 +1,5 @@
+pub mod NameLemmas
+pub mod PieceLemmas
+pub mod ReaderLemmas
+pub mod TemplateLaws
+pub mod TemplateLemmas
