@@ -1,0 +1,3 @@
+pub mod CallerLemmas
+pub mod RangeLemmas
+pub mod RequiredLemmas
