@@ -1,5 +1,5 @@
 -- The bounds in numbers, and what lies between two ends.
-use Rattle.std.proofs.Common.{◌≡◌, ◌↔◌, ◌⊎◌, ℕ, ◌+◌, ◌<◌, ◌≤◌, ◌^◌, ℤ, pos, ◌+ℤ◌, ◌-ℤ◌, ◌*ℤ◌, ◌≤ℤ◌, ◌<ℤ◌, Option, Some, None, refl, sym, ap, ◌∙◌, arith, ⊎_elim, inl, inr}
+use Rattle.std.proofs.Common.{◌≡◌, ◌↔◌, ◌⊎◌, ℕ, ◌+◌, ℤ, pos, ◌+ℤ◌, ◌-ℤ◌, ◌≤ℤ◌, ◌<ℤ◌, Option, Some, None, refl, sym, ap, ◌∙◌, arith, ⊎_elim, inl, inr}
 use Rattle.std.proofs.lemmas.Int.{ints, by_lt_z}
 use Rattle.std.specs.Prelude.{IfSome, cond, int_lt, true, false, Bool, List, length}
 use Rattle.std.specs.Int.{int_max}
@@ -8,7 +8,7 @@ use Rattle.lg_ranges.specs.declared.ask.Ask.{Ask}
 use Rattle.lg_ranges.specs.declared.period.Period.{Period}
 use Rattle.lg_ranges.specs.declared.period.Period.TheVariants.{Daily, Hourly}
 use Rattle.lg_ranges.specs.Bounds.{IsFirstFrom, IsInside}
-use Rattle.lg_ranges.specs.Points.{ArePoints, IsPoint, LiesIn, milliseconds_of, moment_of, span_of}
+use Rattle.lg_ranges.specs.Points.{ArePoints, IsPoint, moment_of, span_of}
 use Rattle.lg_ranges.specs.Required.{AreFrom, IsOnePerPoint}
 
 not_before : (period : Period) (a b : ℤ) → (moment_of period a ≤ℤ moment_of period b) ↔ (a ≤ℤ b)

@@ -1,5 +1,5 @@
 -- The list of what is required, and what it is made of.
-use Rattle.std.proofs.Common.{◌≡◌, ◌⊎◌, ◌∙◌, ℕ, ◌+◌, ◌-◌, ◌<◌, ◌≤◌, zero, suc, ℤ, pos, ◌+ℤ◌, ◌<ℤ◌, Bool, true, false, Some, None, Result, Ok, Err, IfOk, List, [], ◌∷◌, ◌++◌, length, get_or, slice_get, map, filter, take, drop, reverse, refl, sym, ap, subst, append_assoc, drop-cons, arith, ⊎_elim, inl, inr}
+use Rattle.std.proofs.Common.{◌≡◌, ◌⊎◌, ◌∙◌, ℕ, ◌+◌, ◌-◌, ◌<◌, ◌≤◌, zero, suc, ℤ, pos, ◌+ℤ◌, ◌<ℤ◌, Bool, true, false, Some, Result, Ok, Err, IfOk, List, [], ◌∷◌, ◌++◌, length, get_or, slice_get, map, filter, take, drop, reverse, refl, sym, ap, subst, append_assoc, drop-cons, arith, ⊎_elim, inl, inr}
 use Rattle.std.specs.List.{All, AllPairs, Contains, enumerate_from}
 use Rattle.std.proofs.lemmas.Bool.{cases_lt}
 use Rattle.std.proofs.lemmas.Int.{ints, by_lt_z}
@@ -8,7 +8,7 @@ use Rattle.std.proofs.lemmas.List.Elements.{All-cons, All-nil, All-take}
 use Rattle.std.proofs.lemmas.List.Kept.{AllPairs-cons}
 use Rattle.std.proofs.lemmas.Option.{slice_get_within}
 use Rattle.lg_ranges.specs.declared.ask.Ask.{Ask}
-use Rattle.lg_ranges.specs.Points.{ArePoints, IsPoint}
+use Rattle.lg_ranges.specs.Points.{IsPoint}
 use Rattle.lg_ranges.specs.Required.{AreFrom, AreRequired, ComesBefore, IsEndOf, IsMissing, LeavesNoneOut, in_order, missing_points}
 use Rattle.lg_ranges.proofs.RangeLemmas.{same_ends}
 

@@ -1,5 +1,5 @@
 -- When no range is asked for. This project's own, after Luigi's range tasks.
-use Rattle.std.specs.Prelude.{Bool, not, false, ◌&&◌, ◌==◌, ◌∷◌, [], List, ℤ, Option, Some, None, is_none, int_lt, find}
+use Rattle.std.specs.Prelude.{Bool, not, false, ◌&&◌, ◌==◌, ◌∷◌, [], List, ℤ, Option, Some, is_none, int_lt, find}
 use Rattle.std.specs.Option.{option_map}
 use Rattle.lg_ranges.specs.declared.ask.Ask.{Ask}
 use Rattle.lg_ranges.specs.declared.fault.AskFault.{AskFault}
