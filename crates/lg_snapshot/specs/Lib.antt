@@ -1,0 +1,4 @@
+pub mod Commas
+pub mod Records
+pub mod Snapshot
+pub mod Trees
