@@ -1,0 +1,6 @@
+mod LawLemmas
+mod ListLemmas
+mod PreparedLemmas
+mod RuleLemmas
+mod StatusLemmas
+mod ValidityLemmas
