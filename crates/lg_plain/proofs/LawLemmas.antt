@@ -122,6 +122,66 @@ find_task-apart s id status other task found apart rests =
     ∙ ap (option_map (λ t. cond (is_meant id along t) (change t) t)) found
     ∙ ap (λ b. Some (cond b (change task) task)) meant
 
+is_batch-is : (one other : Option (List ℕ)) → is_batch one other ≡ true → one ≡ other
+is_batch-is None other e = absurd (false≢true e)
+is_batch-is (Some text) None e = absurd (false≢true e)
+is_batch-is (Some text) (Some other) e = ap Some (is_same-is text other e)
+
+-- whoever runs in no batch that goes along stays
+stays-apart : (s : State) (id : List ℕ) (status : Status) (other : List ℕ) (task : Task) → find_task other s.tasks ≡ Some task → other ≢ id
+    → is_batch (along_with status id s.tasks) task.batch ≡ false → find_task other (set_status s id status).tasks ≡ Some task
+stays-apart s id status other task found apart outside =
+    let change : Task → Task = set_alone s.settings.retry_delay s.moment status in
+    let along = along_with status id s.tasks in
+    let meant : is_meant id along task ≡ false =
+    ap (λ b. b || runs_in along task) (has_id-other id other task (find_task-has other s.tasks task found) apart (has_id id task) refl)
+    ∙ ap (λ b. b && is_status BatchRunning task.status) outside in
+    find_task-change_meant (is_meant id along) change (id-kept s.settings.retry_delay s.moment status) other s.tasks
+    ∙ ap (option_map (λ t. cond (is_meant id along t) (change t) t)) found
+    ∙ ap (λ b. Some (cond b (change task) task)) meant
+
+-- who runs in another batch
+other-batch : (b : Bool) (one task : Task) → task.batch ≢ one.batch → (inside : Bool) → is_batch (cond b one.batch None) task.batch ≡ inside → inside ≡ false
+other-batch b one task apart false e = refl
+other-batch true one task apart true e = absurd (apart (sym (is_batch-is one.batch task.batch e)))
+other-batch false one task apart true e = sym e
+
+pub find_task-other_batch : (s : State) (id : List ℕ) (status : Status) (one : Task) → find_task id s.tasks ≡ Some one
+    → (other : List ℕ) (task : Task) → find_task other s.tasks ≡ Some task → other ≢ id → task.batch ≢ one.batch
+    → find_task other (set_status s id status).tasks ≡ Some task
+find_task-other_batch s id status one here other task found apart outside =
+    stays-apart s id status other task found apart
+    (ap (λ (o : Option Task). is_batch (option_and_then (batch_along status) o) task.batch) here
+    ∙ other-batch (is_claim one && not (is_status Running status) && not (is_held status one)) one task outside (is_batch (batch_along status one) task.batch) refl)
+
+-- where the task that is set is no claim
+pub find_task-no_claim : (s : State) (id : List ℕ) (status : Status) (one : Task) → find_task id s.tasks ≡ Some one → is_claim one ≡ false
+    → (other : List ℕ) (task : Task) → find_task other s.tasks ≡ Some task → other ≢ id
+    → find_task other (set_status s id status).tasks ≡ Some task
+find_task-no_claim s id status one here alone other task found apart =
+    stays-apart s id status other task found apart
+    (ap (λ (o : Option Task). is_batch (option_and_then (batch_along status) o) task.batch) here
+    ∙ ap (λ c. is_batch (cond (c && not (is_status Running status) && not (is_held status one)) one.batch None) task.batch) alone)
+
+-- the task of the id is set by itself
+pub find_task-itself : (s : State) (id : List ℕ) (status : Status) (task : Task) → find_task id s.tasks ≡ Some task
+    → find_task id (set_status s id status).tasks ≡ Some (set_alone s.settings.retry_delay s.moment status task)
+find_task-itself s id status task found =
+    let change : Task → Task = set_alone s.settings.retry_delay s.moment status in
+    let along = along_with status id s.tasks in
+    find_task-change_meant (is_meant id along) change (id-kept s.settings.retry_delay s.moment status) id s.tasks
+    ∙ ap (option_map (λ t. cond (is_meant id along t) (change t) t)) found
+    ∙ ap (λ b. Some (cond (b || runs_in along task) (change task) task)) (find_task-has id s.tasks task found)
+
+-- enabling changes one
+pub find_task-enable : (s : State) (id : List ℕ) (other : List ℕ) (task : Task) → find_task other s.tasks ≡ Some task → other ≢ id
+    → find_task other (enable s id).tasks ≡ Some task
+find_task-enable s id other task found apart =
+    let change : Task → Task = enabled_alone s.settings.retry_delay s.moment in
+    find_task-change_meant (has_id id) change (λ t. ap (λ (t : Task). t.id) (rest-enabled_alone s.settings.retry_delay s.moment t)) other s.tasks
+    ∙ ap (option_map (λ t. cond (has_id id t) (change t) t)) found
+    ∙ ap (λ b. Some (cond b (change task) task)) (has_id-other id other task (find_task-has other s.tasks task found) apart (has_id id task) refl)
+
 -- ---- what is set twice
 
 first_false : (a b : Bool) → (a || b) ≡ false → a ≡ false

@@ -51,8 +51,15 @@ pub fn who_begins_to_run_is_valid()
         → IsValidTask now (run_by worker now batch (set_alone delay now status task)) }
 {}
 
+/// The task of the id is set by itself.
+pub fn who_is_set_is_set_by_itself()
+    ensures { (s : State) (id : List ℕ) (status : Status) (task : Task) → find_task id s.tasks ≡ Some task
+        → find_task id (set_status s id status).tasks ≡ Some (set_alone s.settings.retry_delay s.moment status task) }
+{}
+
 /// A claim that is set to a status other than RUNNING takes the tasks of its batch along: each is set to that status by itself.
-/// A task that doesn't run for another changes only by its own id.
+/// A task that doesn't run for another changes only by its own id, and so does one of another batch; and where the task of the
+/// id is no claim, it changes alone.
 pub fn claims_take_their_batch_along()
     ensures along { (s : State) (id : List ℕ) (status : Status) (claim : Task) → find_task id s.tasks ≡ Some claim
         → is_claim claim ≡ true → status ≢ Running → is_held status claim ≡ false
@@ -62,10 +69,25 @@ pub fn claims_take_their_batch_along()
     ensures others { (s : State) (id : List ℕ) (status : Status) (other : List ℕ) (task : Task)
         → find_task other s.tasks ≡ Some task → other ≢ id → task.status ≢ BatchRunning
         → find_task other (set_status s id status).tasks ≡ Some task }
+    ensures other_batches { (s : State) (id : List ℕ) (status : Status) (one : Task) → find_task id s.tasks ≡ Some one
+        → (other : List ℕ) (task : Task) → find_task other s.tasks ≡ Some task → other ≢ id → task.batch ≢ one.batch
+        → find_task other (set_status s id status).tasks ≡ Some task }
+    ensures no_claim { (s : State) (id : List ℕ) (status : Status) (one : Task) → find_task id s.tasks ≡ Some one
+        → is_claim one ≡ false → (other : List ℕ) (task : Task) → find_task other s.tasks ≡ Some task → other ≢ id
+        → find_task other (set_status s id status).tasks ≡ Some task }
 {}
 
-/// Each task stays at its place, with its id, its number and all that a change of status isn't about.
+/// Enabling changes the task of the id alone.
+pub fn enabling_leaves_the_others()
+    ensures { (s : State) (id : List ℕ) (other : List ℕ) (task : Task) → find_task other s.tasks ≡ Some task → other ≢ id
+        → find_task other (enable s id).tasks ≡ Some task }
+{}
+
+/// Each task stays at its place, with its id, its number and all that a change of status isn't about; and so does all of the
+/// state but its tasks.
 pub fn all_else_stays()
+    ensures state { (s : State) (id : List ℕ) (status : Status) → record (set_status s id status) { tasks = s.tasks } ≡ s }
+    ensures enabled_state { (s : State) (id : List ℕ) → record (enable s id) { tasks = s.tasks } ≡ s }
     ensures set { (s : State) (id : List ℕ) (status : Status)
         → map rest_of (set_status s id status).tasks ≡ map rest_of s.tasks }
     ensures enabled { (s : State) (id : List ℕ) → map rest_of (enable s id).tasks ≡ map rest_of s.tasks }
