@@ -1,5 +1,6 @@
-ghost use Rattle.std.specs.Prelude.{◌≡◌};
+ghost use Rattle.std.specs.Prelude.{◌≡◌, Some};
 ghost use Rattle.lg_settings.specs.declared.fault.SettingsFault.TheVariants.{NoMemory as out_of_memory};
+ghost use Rattle.lg_settings.specs.Faults.{fault_text};
 
 use lg_base::NoMemory;
 use std::alloc::AllocError;
@@ -16,6 +17,8 @@ pub enum SettingsFault {
 }
 
 impl fmt::Display for SettingsFault {
+    ghost output = { λ fault. Some (fault_text fault) };
+
     fn fmt<W: fmt::Write>(&self, f: &mut fmt::Formatter<W>) -> fmt::Result {
         f.write_str(match self {
             SettingsFault::NotSettings => "no settings file",
