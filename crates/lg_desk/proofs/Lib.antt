@@ -1,5 +1,7 @@
+mod Calls
 pub mod CallerLemmas
 mod Ends
 mod Journals
+mod Passes
 mod Pushes
 mod Replays

@@ -62,6 +62,13 @@ impl Journal {
         }
     }
 
+    /// The journal of these entries, in their order. It takes no memory.
+    pub(crate) fn of(entries: Vec<Entry>) -> Journal
+        ensures { result ≡ entries.items }
+    {
+        Journal { entries }
+    }
+
     /// How many calls were entered.
     pub fn len(&self) -> usize
         ensures { result ≡ length self.now }
