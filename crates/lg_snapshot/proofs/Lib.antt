@@ -1,2 +1,16 @@
+mod AmountLemmas
+mod AsciiLemmas
 mod Commas
+mod DecodingLemmas
 mod FieldLemmas
+mod ItemLemmas
+mod KindBack
+mod Names
+mod OrderLemmas
+mod QuoteReading
+mod ReadBack
+mod ReadingLemmas
+mod RecordBack
+mod SetLemmas
+mod StateBack
+mod ValidityLemmas

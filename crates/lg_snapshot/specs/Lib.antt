@@ -1,4 +1,13 @@
 pub mod Commas
+pub mod Holding
+pub mod Kinds
+pub mod Parsing
+pub mod Reading
+pub mod RecordReadings
 pub mod Records
+pub mod Rising
 pub mod Snapshot
+pub mod StateReading
+pub mod TaskReading
 pub mod Trees
+pub mod Validity

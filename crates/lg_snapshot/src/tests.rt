@@ -1,9 +1,10 @@
 //! The worked rows, and states in which every field is set.
-use crate::encode;
+use crate::{decode, encode};
 use lg_base::{Amounts, Moment, Name, NoMemory, Seq, TaskId, Text, WorkerId};
 use lg_calls::{BatcherRec, Info, Settings, State, Status, TaskRec, WorkerRec};
 use lg_retry::{Failures, Policy};
 use std::alloc::Global;
+use std::process::Abort;
 use std::test::Fail;
 
 fn text(alloc: Global, word: &str) -> Result<Text, NoMemory> {
@@ -295,5 +296,98 @@ fn settings_and_pruning_are_not_in_the_text(rt: HostRuntime) -> Result<(), Fail>
     state.settings.retry_delay = 1;
     state.settings.max_tasks = 1;
     assert_eq!(rt; encoded(rt.alloc(), &state)?.as_str(), FULL);
+    Ok(())
+}
+
+// The text of what some bytes are decoded to; none where they spell no state.
+fn reencoded(alloc: Global, bytes: &[u8]) -> Result<Option<Text>, NoMemory> {
+    match decode(alloc, bytes, &Settings::new())? {
+        Some(state) => Ok(Some(encode(alloc, &state)?)),
+        None => Ok(None),
+    }
+}
+
+fn assert_spells(rt: &impl Abort, alloc: Global, text: &str) -> Result<(), NoMemory> {
+    let found = reencoded(alloc, text.as_bytes())?;
+    let same = matches!(&found, Some(found) if found.as_str() == text);
+    assert!(rt; same, "{text}");
+    Ok(())
+}
+
+fn assert_spells_nothing(rt: &impl Abort, alloc: Global, bytes: &[u8]) -> Result<(), NoMemory> {
+    let found = reencoded(alloc, bytes)?;
+    assert!(rt; found.is_none(), "{bytes:?}");
+    Ok(())
+}
+
+#[test]
+fn each_text_is_read_back(rt: HostRuntime) -> Result<(), Fail> {
+    for text in [EMPTY, ONE_LIMIT, FULL] {
+        assert_spells(&rt, rt.alloc(), text)?;
+    }
+    let state = full_state(rt.alloc())?;
+    let again = decode(rt.alloc(), FULL.as_bytes(), &Settings::new())?.expect(&rt, "the state");
+    let shown = format!(in rt.alloc(); "{state:?}")?;
+    assert_eq!(rt;
+        format!(in rt.alloc(); "{again:?}")?.as_str(),
+        shown.as_str()
+    );
+    Ok(())
+}
+
+#[test]
+fn one_byte_changed_spells_nothing(rt: HostRuntime) -> Result<(), Fail> {
+    for at in 0..EMPTY.len() {
+        let mut bytes = EMPTY.as_bytes().to_vec(rt.alloc())?;
+        bytes[at] = if bytes[at] == b'x' { b'y' } else { b'x' };
+        assert_spells_nothing(&rt, rt.alloc(), &bytes)?;
+    }
+    for end in 0..EMPTY.len() {
+        assert_spells_nothing(&rt, rt.alloc(), &EMPTY.as_bytes()[..end])?;
+    }
+    Ok(())
+}
+
+/// What a text has, and what stands in its place in one that spells no state.
+static CHANGES: [(&str, &str); 14] = [
+    (",\"limits\"", ", \"limits\""),
+    ("}\n", "}"),
+    ("}\n", "}\n\n"),
+    ("\"number\":3", "\"number\":03"),
+    ("\"number\":3", "\"number\":3.0"),
+    ("\"number\":3", "\"number\":3,\"number\":3"),
+    ("\"number\":7", "\"number\":3"),
+    ("\"id\":\"task_b\"", "\"id\":\"task_a\""),
+    (
+        "\"next\":414,\"paused\":true",
+        "\"paused\":true,\"next\":414",
+    ),
+    (",\"module\":null", ""),
+    ("\\u00e9", "é"),
+    ("\"version\":1", "\"version\":2"),
+    ("\"disabled_at\":122", "\"disabled_at\":413"),
+    ("\"a\":0,\"cpu\":112", "\"cpu\":112,\"a\":0"),
+];
+
+#[test]
+fn other_spellings_and_invalid_states_spell_nothing(rt: HostRuntime) -> Result<(), Fail> {
+    for (old, new) in CHANGES {
+        let (front, behind) = FULL.split_once(old).expect(&rt, old);
+        let text = format!(in rt.alloc(); "{front}{new}{behind}")?;
+        assert_spells_nothing(&rt, rt.alloc(), text.as_bytes())?;
+    }
+    assert_spells_nothing(&rt, rt.alloc(), b"\xff").map_err(Fail::from)
+}
+
+// Settings out of their ranges make no valid state.
+#[test]
+fn settings_are_those_that_are_given(rt: HostRuntime) -> Result<(), Fail> {
+    let mut settings = Settings::new();
+    settings.retry_delay = 7;
+    let state = decode(rt.alloc(), EMPTY.as_bytes(), &settings)?.expect(&rt, "the state");
+    assert_eq!(rt; state.settings.retry_delay, 7);
+    assert!(rt; state.pruned.is_none());
+    settings.max_tasks = 0;
+    assert!(rt; decode(rt.alloc(), EMPTY.as_bytes(), &settings)?.is_none());
     Ok(())
 }
