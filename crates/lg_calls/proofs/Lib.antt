@@ -4,6 +4,7 @@ pub mod InfoLemmas
 pub mod LimitLemmas
 pub mod LookLemmas
 pub mod MethodLemmas
+mod MomentLemmas
 pub mod OrderLemmas
 pub mod RangeLemmas
 pub mod ReadingLemmas

@@ -7,9 +7,9 @@ use Rattle.lg_json.specs.Tree.{Tree}
 use Rattle.lg_calls.specs.declared.request.Request.{Request}
 use Rattle.lg_calls.specs.declared.request.Request.TheVariants.{UpdateResource}
 use Rattle.lg_calls.specs.declared.state.State.{State}
-use Rattle.lg_calls.specs.Methods.UpdateResource.{limit_set}
 use Rattle.lg_calls.specs.Outcome.{Outcome, replied, full, not_built}
 use Rattle.lg_calls.specs.Pruning.{pruned, pruned_since, pruned_if_due, is_due, asks_for_pruning}
+use Rattle.lg_calls.proofs.MomentLemmas.{applied-moment}
 use Rattle.lg_calls.specs.Step.{applied, begun, where_replied, step}
 
 -- what a pruning leaves to see: the moment is as it was, and only the last pruning may be another
@@ -38,14 +38,6 @@ step_by s handed request now last limits tree is last_is does =
     ap (λ state. where_replied s (applied state request)) (begun_by s handed request now is)
     ∙ ap (where_replied s) (does (record s { moment = now; pruned = (pruned_if_due s now.0 request).pruned }) refl)
     ∙ ap (with_last s now limits tree) (sym last_is)
-
--- what a request does leaves the moment
-applied-moment : (s : State) (request : Request) → (applied s request).0.moment ≡ s.moment
-applied-moment s (UpdateResource ask) = limit_set-moment s ask.resource ask.amount where
-  limit_set-moment : (s : State) (resource : List ℕ) (amount : ℤ) → (limit_set s resource amount).0.moment ≡ s.moment
-  limit_set-moment s resource (pos n) = refl
-  limit_set-moment s resource (negsuc n) = refl
-applied-moment s _ = refl
 
 begun-moment : (s : State) (handed : ℕ) (request : Request) → (begun s handed request).moment.0 ≡ max s.moment.0 handed
 begun-moment s handed request =

@@ -1,3 +1,4 @@
+pub mod AddTask
 pub mod ArgumentName
 pub mod Call
 pub mod Engine
@@ -8,13 +9,17 @@ pub mod Method
 pub mod Methods
 pub mod Order
 pub mod Outcome
+pub mod Pausing
 pub mod Pruning
+pub mod Raising
 pub mod Ranges
 pub mod Reading
 pub mod Refusal
 pub mod Request
 pub mod RetryEntries
+pub mod Running
 pub mod Settings
+pub mod Settling
 pub mod State
 pub mod Status
 pub mod Step
@@ -24,3 +29,4 @@ pub mod Tasks
 pub mod Valid
 pub mod ValidOnce
 pub mod Words
+pub mod Workers

@@ -1,17 +1,38 @@
 -- What one request does to the state, and what it comes to. This project's own, after Luigi's central scheduler.
-use Rattle.std.specs.Prelude.{ℕ, max}
-use Rattle.lg_json.specs.Tree.{null}
+use Rattle.std.specs.Prelude.{ℕ, max, true, false, codes}
+use Rattle.lg_json.specs.Tree.{null, truth}
 use Rattle.lg_calls.specs.declared.request.Request.{Request}
 use Rattle.lg_calls.specs.declared.state.State.{State}
+use Rattle.lg_calls.specs.AddTask.Adding.{task_added}
+use Rattle.lg_calls.specs.Methods.AddWorker.{worker_added}
+use Rattle.lg_calls.specs.Methods.DisableWorker.{worker_disabled}
+use Rattle.lg_calls.specs.Methods.Ping.{no_messages}
 use Rattle.lg_calls.specs.Methods.UpdateResource.{limit_set}
+use Rattle.lg_calls.specs.Methods.UpdateResources.{limits_set}
 use Rattle.lg_calls.specs.Outcome.{Outcome, replied, full, not_built}
+use Rattle.lg_calls.specs.Pausing.{answered, set_paused}
 use Rattle.lg_calls.specs.Pruning.{pruned_if_due}
+use Rattle.lg_calls.specs.Settling.{failures_forgiven, marked_as_done}
+use Rattle.lg_calls.specs.Workers.{touched}
 
 -- what a request does to the state of its moment, one case a method that is built
 abbrev pub applied : State → Request → State × Outcome
-applied state (Request.UpdateResource ask) = limit_set state ask.resource ask.amount
-applied state Request.Stop = (state, replied null)
-applied state _ = (state, not_built)
+applied s (Request.AddTask ask) = task_added ask s
+applied s (Request.AddWorker ask) = (worker_added ask s, replied null)
+applied s Request.AnnounceSchedulingFailure = (s, replied null)
+applied s (Request.DisableWorker ask) = (worker_disabled ask.worker s, replied null)
+applied s (Request.ForgiveFailures ask) = failures_forgiven ask.task_id s
+applied s Request.HasTaskHistory = (s, replied (truth false))
+applied s Request.IsPauseEnabled = (s, replied (answered (codes "enabled") s.settings.pause_enabled))
+applied s Request.IsPaused = (s, replied (answered (codes "paused") s.paused))
+applied s (Request.MarkAsDone ask) = marked_as_done ask.task_id s
+applied s Request.Pause = (set_paused true s, replied null)
+applied s (Request.Ping ask) = (touched ask.worker s, replied no_messages)
+applied s Request.Stop = (s, replied null)
+applied s Request.Unpause = (set_paused false s, replied null)
+applied s (Request.UpdateResource ask) = limit_set s ask.resource ask.amount
+applied s (Request.UpdateResources ask) = (limits_set ask.limits s, replied null)
+applied s _ = (s, not_built)
 
 -- the state at the moment of a step, which is the later one of the moment handed in and the state's own; pruned if that is due
 abbrev pub begun : State → ℕ → Request → State
