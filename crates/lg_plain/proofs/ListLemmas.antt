@@ -7,7 +7,7 @@ use Rattle.lg_calls.specs.Order.{is_same}
 use Rattle.lg_calls.specs.Task.{Task}
 use Rattle.lg_calls.specs.Tasks.{has_id, find_task, change_meant}
 
-field-cond : {X : Type 0} (field : Task → X) (b : Bool) (changed task : Task) → field changed ≡ field task → field (cond b changed task) ≡ field task
+pub field-cond : {X : Type 0} (field : Task → X) (b : Bool) (changed task : Task) → field changed ≡ field task → field (cond b changed task) ≡ field task
 field-cond field true changed task keeps = keeps
 field-cond field false changed task keeps = refl
 

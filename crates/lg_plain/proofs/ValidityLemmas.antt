@@ -16,7 +16,7 @@ use Rattle.lg_calls.specs.Task.{Task}
 use Rattle.lg_calls.specs.Tasks.{has_id, change_meant}
 use Rattle.lg_calls.specs.Valid.{is_running, NotLater, FitsMoment, IsValidHistory, IsValidTask, IsValidState}
 use Rattle.lg_plain.specs.Laws.{rest_of, RunsOn}
-use Rattle.lg_plain.specs.Running.{run_by}
+use Rattle.lg_calls.specs.Running.{run_by}
 use Rattle.lg_plain.proofs.ListLemmas.{map-change_meant, All-change_meant}
 use Rattle.lg_plain.proofs.RuleLemmas.{set_alone-held, set_alone-free}
 use Rattle.lg_plain.proofs.StatusLemmas.{is_status-along, settled-is, running-is, rest-set_alone, rest-enabled_alone}
@@ -37,7 +37,7 @@ history-added keeps now policy history valid =
     let kept = keeps history now policy valid.in_order valid.moments in
     record { first = first-added now history.first valid.first; moments = kept.1; in_order = kept.0 }
 
-history-none : (now : Moment) → IsValidHistory now no_failures
+pub history-none : (now : Moment) → IsValidHistory now no_failures
 history-none now = record {
   first = tt;
   moments = λ k d inside. absurd (omega arith);

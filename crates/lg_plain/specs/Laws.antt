@@ -1,5 +1,5 @@
--- What the change of status leaves, and what it begins. This project's own.
-use Rattle.std.specs.Prelude.{◌≡◌, Some, None}
+-- What the change of status leaves, and what it begins; what `add_task` leaves. This project's own.
+use Rattle.std.specs.Prelude.{◌≡◌, ℕ, Some, None, List, [], ◌++◌, map, All}
 use Rattle.lg_base.specs.declared.moment.Moment.{Moment}
 use Rattle.lg_retry.specs.Failures.{no_failures}
 use Rattle.lg_calls.specs.declared.status.Status.TheVariants.{Pending, Failed}
@@ -31,3 +31,20 @@ pub record BeginsAnew (retry : Moment) (task : Task) : Type 0 where
   pub failures : task.failures ≡ no_failures
   pub disabled_at : task.disabled_at ≡ None
   pub retry_at : task.retry ≡ Some retry
+
+-- a list goes on in another: all stays in its order, and more comes behind it
+abbrev pub GoesOn : {X : Type 0} → List X → List X → Type 0
+GoesOn {X} before after = (more : List X) × (after ≡ before ++ more)
+
+-- a task by its id, with its number
+abbrev pub numbered : Task → List ℕ × ℕ
+numbered task = (task.id, task.number)
+
+-- the stakeholders of tasks
+abbrev pub stakeholders_of : List Task → List (List (List ℕ))
+stakeholders_of tasks = map (λ task. task.stakeholders) tasks
+
+-- nobody becomes a stakeholder: each task has those that it had, and the tasks that come behind have none
+abbrev pub GainsNobody : List Task → List Task → Type 0
+GainsNobody before after =
+    (more : List (List (List ℕ))) × (stakeholders_of after ≡ stakeholders_of before ++ more) × All (λ who. who ≡ []) more

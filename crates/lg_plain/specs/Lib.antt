@@ -1,4 +1,6 @@
 pub mod Laws
+pub mod Parts
 pub mod Plain
 pub mod Prepared
-pub mod Running
+pub mod Requests
+pub mod Walking

@@ -84,8 +84,8 @@ fn make(state: &mut State, alloc: Global, meant: &Meant, change: &Change) -> Res
     Ok(())
 }
 
-// The task of an id, if there is one.
-fn find_task<'a>(tasks: &'a [TaskRec], id: &TaskId) -> Option<&'a TaskRec>
+/// The task of an id, if there is one.
+pub(crate) fn find_task<'a>(tasks: &'a [TaskRec], id: &TaskId) -> Option<&'a TaskRec>
     ensures { option_copied result ≡ find_task id.now tasks.now }
 {
     tasks.iter().find(|task| task.has_id(id))
@@ -122,8 +122,8 @@ fn is_claim(task: &TaskRec) -> bool
     is_status(Status::Running, task.status) && task.batch.is_some()
 }
 
-// Whether two batches are one.
-fn is_batch(one: &Option<Text>, other: &Option<Text>) -> bool
+/// Whether two batches are one.
+pub(crate) fn is_batch(one: &Option<Text>, other: &Option<Text>) -> bool
     ensures { result ≡ is_batch one.now other.now }
 {
     match (one, other) {

@@ -1,15 +1,23 @@
-//! What the change of status comes to, for those who follow a task through it.
-ghost use Rattle.std.specs.Prelude.{◌≡◌, ◌≢◌, ℕ, ◌+◌, false, true, Option, Some, IsSome, List, map};
+//! What the change of status and `add_task` come to, for those who follow a task through them.
+ghost use Rattle.std.specs.Prelude.{◌≡◌, ◌≢◌, ℕ, ◌+◌, ◌<◌, ◌^◌, false, true, Option, Some, None, IsSome, IsTrue, List, map};
 ghost use Rattle.lg_base.specs.declared.moment.Moment.{Moment};
+ghost use Rattle.lg_calls.specs.declared.methods.add_task.AddTask.{AddTask};
+ghost use Rattle.lg_calls.specs.declared.request.Request.{Request};
 ghost use Rattle.lg_calls.specs.declared.state.State.{State};
+ghost use Rattle.lg_calls.specs.declared.status.Reported.TheVariants.{Pending};
 ghost use Rattle.lg_calls.specs.declared.status.Status.{Status};
 ghost use Rattle.lg_calls.specs.declared.status.Status.TheVariants.{Running, BatchRunning, Done, Failed, Disabled};
+ghost use Rattle.lg_calls.specs.Methods.AddTask.{add_task_in_range};
+ghost use Rattle.lg_calls.specs.Request.{IsInRange};
 ghost use Rattle.lg_calls.specs.Status.{is_held, is_claim, forgiven, set_alone, enabled_alone, set_status, enable};
+ghost use Rattle.lg_calls.specs.Step.{step};
 ghost use Rattle.lg_calls.specs.Task.{Task};
 ghost use Rattle.lg_calls.specs.Tasks.{ids_of, numbers_of, find_task, change_task};
 ghost use Rattle.lg_calls.specs.Valid.{is_running, IsValidTask, IsValidState};
-ghost use Rattle.lg_plain.specs.Laws.{rest_of, RunsOn, BeginsAnew};
-ghost use Rattle.lg_plain.specs.Running.{run_by};
+ghost use Rattle.lg_calls.specs.AddTask.Adding.{added, has_no_room};
+ghost use Rattle.lg_calls.specs.Workers.{is_disabled, touched};
+ghost use Rattle.lg_plain.specs.Laws.{rest_of, numbered, BeginsAnew, GainsNobody, GoesOn, RunsOn};
+ghost use Rattle.lg_calls.specs.Running.{run_by};
 
 /// A task that the scheduler disabled stays as it is, whichever task is set, unless that is set to DONE or DISABLED.
 pub fn who_the_scheduler_disabled_stays()
@@ -115,3 +123,53 @@ pub fn enabling_is_forgetting_and_failing()
     ensures { (s : State) (id : List ℕ) (task : Task) → find_task id s.tasks ≡ Some task → task.status ≡ Disabled
         → enable s id ≡ set_status (record s { tasks = change_task id forgiven s.tasks }) id Failed }
 {}
+
+/// Behind `add_task` the known tasks stand in their order, and those that were made stand behind them.
+pub fn known_tasks_stay_in_order()
+    ensures { (ask : AddTask) (s : State) → GoesOn (ids_of s.tasks) (ids_of (added ask s).tasks) }
+{}
+
+/// Behind `add_task` each known task has its number.
+pub fn known_tasks_keep_their_numbers()
+    ensures { (ask : AddTask) (s : State) → GoesOn (map numbered s.tasks) (map numbered (added ask s).tasks) }
+{}
+
+/// A worker that is disabled makes no task, and changes none by a call of one that isn't known.
+pub fn a_disabled_worker_makes_no_task()
+    ensures { (ask : AddTask) (s : State) → is_disabled ask.worker (touched ask.worker s).workers ≡ true
+        → find_task ask.task_id s.tasks ≡ None → (added ask s).tasks ≡ s.tasks }
+{}
+
+/// A worker that is disabled becomes no stakeholder of any task.
+pub fn a_disabled_worker_wants_nothing()
+    ensures { (ask : AddTask) (s : State) → is_disabled ask.worker (touched ask.worker s).workers ≡ true
+        → GainsNobody s.tasks (added ask s).tasks }
+{}
+
+/// A task that is done isn't changed by a report of PENDING before the cooldown has passed.
+pub fn what_is_done_stays_for_the_cooldown()
+    ensures { (ask : AddTask) (s : State) (task : Task) → ask.status ≡ Pending → find_task ask.task_id s.tasks ≡ Some task
+        → task.status ≡ Done → s.moment.0 < task.updated.0 + s.settings.stable_done_cooldown
+        → (added ask s).tasks ≡ s.tasks }
+{}
+
+/// A valid state stays valid behind `add_task`, whatever a call in range says, where there is room for the tasks that it makes.
+pub fn adding_keeps_validity()
+    ensures { (ask : AddTask) (s : State) → IsValidState s → IsTrue (add_task_in_range ask)
+        → has_no_room s (added ask s) ≡ false → IsValidState (added ask s) }
+{
+    lg_retry::laws::moments_stay_in_order();
+    lg_calls::laws::ids_stay_distinct();
+    lg_calls::laws::numbers_keep_rising();
+}
+
+/// A valid state stays valid behind a step, at any moment below 2^62 and with any request in range.
+pub fn steps_keep_validity()
+    ensures { (s : State) (now : ℕ) (request : Request) → IsValidState s → now < 2 ^ 62 → IsInRange request
+        → IsValidState (step s now request).0 }
+{
+    setting_keeps_validity();
+    adding_keeps_validity();
+    lg_calls::laws::ids_stay_distinct();
+    lg_calls::laws::numbers_keep_rising();
+}

@@ -1,11 +1,12 @@
 ghost use Rattle.std.specs.Prelude.{◌≡◌, false, IsTrue, OnOk, OnErr};
+ghost use Rattle.lg_calls.specs.Methods.AddTask.{add_task_in_range};
 ghost use Rattle.lg_calls.specs.Status.{set_status, enable};
 ghost use Rattle.lg_calls.specs.Valid.{is_running, IsValidState};
 ghost use Rattle.lg_calls.specs.ValidOnce.{valid_state-prop};
 
-use crate::{change, laws};
-use lg_base::{NoMemory, TaskId};
-use lg_calls::{State, Status};
+use crate::{adding, change, laws, step};
+use lg_base::{Moment, NoMemory, TaskId};
+use lg_calls::{AddTask, Engine, Reply, Request, State, Status, StepFault};
 use std::alloc::Global;
 
 /// The scheduler over plain lists. It keeps a state, which is always valid.
@@ -16,6 +17,7 @@ pub struct Plain {
 }
 
 impl Plain {
+    ghost use Rattle.lg_calls.specs.AddTask.Adding.{Adds};
     ghost use Rattle.lg_plain.specs.Plain.{state_of};
     ghost use Rattle.lg_plain.specs.Prepared.{wants_memory, wants_memory_to_enable};
 
@@ -67,4 +69,35 @@ impl Plain {
         laws::enabling_keeps_validity();
         change::enable(&mut self.state, alloc, id)
     }
+
+    /// A worker declares a task, or reports what became of one, at the moment of the state: `add_task`, with the rise of what
+    /// the task waits for. `Full` with the number of the tasks, exactly where tasks would be made and the tasks with
+    /// them would pass `max_tasks`, or their numbers 2^62. That and a want of memory leave the state as it was.
+    pub fn add_task(&mut self, alloc: Global, ask: &AddTask) -> Result<(), StepFault>
+        requires { IsTrue (add_task_in_range ask.now) }
+        ensures { Adds ask.now (state_of self.old) (state_of self.new) result }
+    {
+        laws::adding_keeps_validity();
+        adding::add_task(&mut self.state, alloc, ask)
+    }
+}
+
+impl Engine for Plain {
+    ghost state = { λ plain. plain.state };
+
+    fn start(_alloc: Global, base: State) -> Result<Plain, (State, NoMemory)> {
+        Ok(Plain { state: base })
+    }
+
+    fn step(&mut self, alloc: Global, now: Moment, request: &Request) -> Result<Reply, StepFault> {
+        laws::steps_keep_validity();
+        step::step(&mut self.state, alloc, now, request)
+    }
+
+    fn finish(self) -> State {
+        let Plain { state } = self;
+        state
+    }
+
+    ghost is_valid = { λ plain. plain.is_valid };
 }

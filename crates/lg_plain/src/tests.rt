@@ -10,10 +10,13 @@ use lg_retry::{Failures, Policy};
 use std::alloc::Global;
 use std::test::Fail;
 
+mod adding;
 mod claims;
 mod enabling;
 mod plain;
+mod rising;
 mod rules;
+mod steps;
 mod windows;
 
 // Two failures within the hour are too many.
@@ -92,6 +95,7 @@ fn fail_at(task: &mut TaskRec, moment: u64) -> Result<(), NoMemory> {
 
 // A state of these tasks at 1,000, with the default settings.
 fn state(alloc: Global, tasks: Seq<TaskRec>) -> State
+    ensures tasks { result.tasks ≡ tasks }
     ensures moment { result.moment.0 ≡ 1000 }
     ensures delay { result.settings.retry_delay ≡ 900000 }
 {
