@@ -12,10 +12,10 @@ use crate::audit::{Audit, LifeEnd};
 use crate::exit::Exit;
 use crate::lane::serve_lane;
 use crate::life::Life;
-use crate::limits::Limits;
 use lg_base::{NoMemory, Text};
 use lg_calls::{Engine, Settings, State};
 use lg_io::{BindFault, Door, Files, Net, Numbers, Sink};
+use lg_plain::Plain;
 use std::alloc::Global;
 use std::mem;
 use std::sync::Wait;
@@ -126,7 +126,7 @@ fn serve<R: Wait, N: Net, U: Audit>(
         result }
 {
     match listen(alloc, net, doors) {
-        Ok(()) => match serve_life::<R, Limits, N::Door, U>(rt, alloc, &mut doors[0], audit) {
+        Ok(()) => match serve_life::<R, Plain, N::Door, U>(rt, alloc, &mut doors[0], audit) {
             Ok(end) => Exit::from(end),
             Err(NoMemory) => Exit::NoMemory,
         },

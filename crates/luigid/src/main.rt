@@ -11,7 +11,6 @@ pub mod hearing;
 pub mod lane;
 pub mod laws;
 pub mod life;
-pub mod limits;
 pub mod payload;
 pub mod refusal;
 pub mod said;

@@ -18,6 +18,7 @@ mod calls;
 mod ends;
 mod links;
 mod refusals;
+mod sessions;
 
 /// A call that sets a limit, and a stop.
 const TWO_CALLS: &[u8] =

@@ -12,13 +12,13 @@ pub(super) const STOP: &[u8] = b"POST /api/stop HTTP/1.1\r\nHost: x\r\nContent-L
 pub(super) const STOPPED: &[u8] =
     b"HTTP/1.1 200 OK\r\nContent-Type: application/json\r\nContent-Length: 17\r\nConnection: close\r\n\r\n{\"response\":null}";
 
-/// A method that nobody knows, one that isn't built, a payload that is no JSON; and then the two calls.
+/// A method that nobody knows, a payload without what it needs, one that is no JSON; and then the two calls.
 const FIVE_MESSAGES: &[u8] =
     b"POST /api/nope HTTP/1.1\r\nHost: x\r\nContent-Length: 0\r\n\r\nPOST /api/ping HTTP/1.1\r\nHost: x\r\nContent-Length: 0\r\n\r\nPOST /api/update_resource HTTP/1.1\r\nHost: x\r\nContent-Length: 6\r\n\r\ndata=xPOST /api/update_resource HTTP/1.1\r\nHost: x\r\nContent-Length: 56\r\n\r\ndata=%7B%22resource%22%3A%22gpu%22%2C%22amount%22%3A2%7DPOST /api/stop HTTP/1.1\r\nHost: x\r\nContent-Length: 0\r\n\r\n";
 
 /// The five responses.
 const FIVE_RESPONSES: &[u8] =
-    b"HTTP/1.1 404 Not Found\r\nContent-Type: application/json\r\nContent-Length: 26\r\n\r\n{\"error\":\"unknown method\"}HTTP/1.1 501 Not Implemented\r\nContent-Type: application/json\r\nContent-Length: 21\r\n\r\n{\"error\":\"not built\"}HTTP/1.1 400 Bad Request\r\nContent-Type: application/json\r\nContent-Length: 20\r\n\r\n{\"error\":\"bad json\"}HTTP/1.1 200 OK\r\nContent-Type: application/json\r\nContent-Length: 17\r\n\r\n{\"response\":true}HTTP/1.1 200 OK\r\nContent-Type: application/json\r\nContent-Length: 17\r\nConnection: close\r\n\r\n{\"response\":null}";
+    b"HTTP/1.1 404 Not Found\r\nContent-Type: application/json\r\nContent-Length: 26\r\n\r\n{\"error\":\"unknown method\"}HTTP/1.1 400 Bad Request\r\nContent-Type: application/json\r\nContent-Length: 26\r\n\r\n{\"error\":\"missing worker\"}HTTP/1.1 400 Bad Request\r\nContent-Type: application/json\r\nContent-Length: 20\r\n\r\n{\"error\":\"bad json\"}HTTP/1.1 200 OK\r\nContent-Type: application/json\r\nContent-Length: 17\r\n\r\n{\"response\":true}HTTP/1.1 200 OK\r\nContent-Type: application/json\r\nContent-Length: 17\r\nConnection: close\r\n\r\n{\"response\":null}";
 
 /// The response to bytes that are no message.
 const BAD_MESSAGE: &[u8] =
@@ -163,7 +163,7 @@ const REFUSED: [(&[u8], &[u8]); 24] = [
         UNKNOWN_METHOD,
     ),
     (
-        b"POST /api/add_task HTTP/1.1\r\nHost: x\r\nContent-Length: 6\r\n\r\ndata=x",
+        b"POST /api/get_work HTTP/1.1\r\nHost: x\r\nContent-Length: 6\r\n\r\ndata=x",
         NOT_BUILT,
     ),
     (
