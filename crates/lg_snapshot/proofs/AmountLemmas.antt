@@ -1,9 +1,8 @@
 -- Amounts of pairs that rise, or don't.
-use Rattle.std.proofs.Common.{◌≡◌, ℕ, Bool, true, false, List, Some, None, sym, ap, ◌∙◌}
+use Rattle.std.proofs.Common.{◌≡◌, ℕ, true, false, List, Some, None, sym, ap, ◌∙◌}
 use Rattle.std.specs.Prelude.{if◌then◌else◌}
 use Rattle.std.specs.FinMap.{from_sorted}
 use Rattle.lg_calls.specs.Order.{all_pairs}
-use Rattle.lg_base.specs.Amounts.{AmountsByName}
 use Rattle.lg_snapshot.specs.Kinds.{amounts_of}
 use Rattle.lg_snapshot.specs.Validity.{name_is_before}
 use Rattle.lg_snapshot.proofs.OrderLemmas.{pairs_rise}

@@ -1,16 +1,16 @@
 -- The text of a tree is ASCII.
-use Rattle.std.proofs.Common.{◌≡◌, ℕ, ◌<◌, Bool, true, false, List, [], ◌∷◌, ◌++◌, sym, subst, arith, codes}
+use Rattle.std.proofs.Common.{ℕ, ℤ, pos, negsuc, ◌<◌, Bool, true, false, List, [], ◌∷◌, ◌++◌, sym, subst, arith}
 use Rattle.std.specs.Prelude.{All, IsUtf8}
 use Rattle.std.specs.Fmt.{signed_decimal}
 use Rattle.std.specs.Str.{IsAscii}
+use Rattle.std.proofs.lemmas.Fmt.{IsAscii-decimal_wide, IsAscii-signed}
 use Rattle.std.proofs.lemmas.Str.{IsAscii-append, IsUtf8-from_ascii}
 use Rattle.std.proofs.lemmas.Str.Ascii.{IsAscii-nil, IsAscii-cons, IsAscii-from_all}
-use Rattle.itoa.proofs.Decimal.{IsAscii-signed_decimal}
 use Rattle.lg_json.specs.Canonical.{IsPrintable}
 use Rattle.lg_json.specs.Text.{quoted, with_commas, text_of, texts_of, member_texts_of}
 use Rattle.lg_json.specs.Tree.{Tree, null, truth, int, str, list, object, Trees, no_trees, tree, Members, no_members, member}
 use Rattle.lg_snapshot.specs.Commas.{comma_if}
-use Rattle.lg_snapshot.specs.Holding.{IsHeld, AreHeld, MembersAreHeld}
+use Rattle.lg_snapshot.specs.Holding.{IsHeldNumber, IsHeld, AreHeld, MembersAreHeld}
 use Rattle.lg_snapshot.proofs.Commas.{pieces, with_commas-pieces}
 
 -- what `lg_json` says of quoted texts
@@ -19,6 +19,10 @@ QuotesArePrintable = (text : List ℕ) → IsUtf8 text → All IsPrintable (quot
 
 quoted-ascii : QuotesArePrintable → (text : List ℕ) → IsUtf8 text → IsAscii (quoted text)
 quoted-ascii printable text utf8 = IsAscii-from_all (quoted text) (λ k d below. let byte = printable text utf8 k d below in omega (arith, byte.1))
+
+number-ascii : (n : ℤ) → IsHeldNumber n → IsAscii (signed_decimal n)
+number-ascii (pos n) held = IsAscii-decimal_wide n (omega arith)
+number-ascii (negsuc n) held = IsAscii-signed (negsuc n) held
 
 comma-ascii : (later : Bool) → IsAscii (comma_if later)
 comma-ascii true = IsAscii-cons 44 [] (omega arith) IsAscii-nil
@@ -39,7 +43,7 @@ module _ (printable : QuotesArePrintable) where
     text_of-ascii null held = word-ascii 110 117 108 108 [] (omega arith) (omega arith) (omega arith) (omega arith) IsAscii-nil
     text_of-ascii (truth true) held = word-ascii 116 114 117 101 [] (omega arith) (omega arith) (omega arith) (omega arith) IsAscii-nil
     text_of-ascii (truth false) held = word-ascii 102 97 108 115 (101 ∷ []) (omega arith) (omega arith) (omega arith) (omega arith) (IsAscii-cons 101 [] (omega arith) IsAscii-nil)
-    text_of-ascii (int n) held = IsAscii-signed_decimal n held
+    text_of-ascii (int n) held = number-ascii n held
     text_of-ascii (str text) held = quoted-ascii printable text held
     text_of-ascii (list ts) held = enclosed 91 93 (texts_of ts) (omega arith) (omega arith) (pieces-ascii false ts held)
     text_of-ascii (object ms) held = enclosed 123 125 (member_texts_of ms) (omega arith) (omega arith) (members-ascii false ms held)

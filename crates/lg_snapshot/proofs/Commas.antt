@@ -30,7 +30,7 @@ one_more : (done separator text rest end : List ℕ) → done ++ ((separator ++ 
 one_more done separator text rest end = simp append_assoc
 
 -- the element at hand comes next
-drop_next : {A : Type 0} (items : List A) (i : ℕ) (item : A) → i < length items → item ≡ get_or items i item → drop i items ≡ item ∷ drop (i + 1) items
+pub drop_next : {A : Type 0} (items : List A) (i : ℕ) (item : A) → i < length items → item ≡ get_or items i item → drop i items ≡ item ∷ drop (i + 1) items
 drop_next items i item within is = drop_more items i item within ∙ ap (λ y. y ∷ drop (i + 1) items) (sym is)
 
 -- what is left of a list, and of an object

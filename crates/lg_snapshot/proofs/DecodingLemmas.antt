@@ -4,9 +4,7 @@ use Rattle.std.specs.Prelude.{if◌then◌else◌, IfOk, IfSome, IsUtf8}
 use Rattle.std.specs.Result.{IsErrAnd}
 use Rattle.std.specs.Str.{bytes_eq}
 use Rattle.std.proofs.lemmas.Result.{err_from_is_err_and}
-use Rattle.serde_json.specs.Data.{Data}
 use Rattle.serde_json.specs.Find.{as_object}
-use Rattle.serde_json.specs.Read.{read}
 use Rattle.serde_json.specs.View.{view}
 use Rattle.serde_json.specs.declared.value.Value.{Value}
 use Rattle.lg_calls.specs.declared.settings.Settings.{Settings}
@@ -106,3 +104,9 @@ pub none_only : QuotesArePrintable → (settings : Settings) (bytes : List ℕ) 
 none_only printable settings bytes fault other said t held snapshot =
     let none : Says settings bytes (Err Other) = subst (λ f. Says settings bytes (Err f)) other said in
     sym (none (text-utf8 printable settings t bytes held snapshot)) ∙ snapshot_back settings t bytes held snapshot
+
+-- a state that memory holds is found again in its snapshot
+pub found_again : {E : Type 0} (settings : Settings) (s : State) (bytes : List ℕ) (result : Result (Option State) E) → IsHeldState s → IsSnapshotOf settings s bytes
+    → IfOk result (λ found. (t : State) → IsHeldState t → IsSnapshotOf settings t bytes → found ≡ Some t) → IfOk result (λ found. found ≡ Some s)
+found_again settings s bytes (Ok found) held is only = only s held is
+found_again settings s bytes (Err fault) held is only = tt

@@ -1,5 +1,5 @@
 -- The fields of a record, written one behind another.
-use Rattle.std.proofs.Common.{◌≡◌, ℕ, List, [], ◌∷◌, ◌++◌, flat_map, refl, sym, ap, ◌∙◌, append_assoc, append-nil}
+use Rattle.std.proofs.Common.{◌≡◌, ℕ, List, [], ◌∷◌, ◌++◌, refl, sym, ap, ◌∙◌, append_assoc, append-nil}
 use Rattle.lg_json.specs.Text.{text_of, member_text}
 use Rattle.lg_json.specs.Tree.{Tree}
 use Rattle.lg_snapshot.specs.Records.{Fields, record_of, more_text}

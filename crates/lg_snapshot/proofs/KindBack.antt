@@ -1,6 +1,6 @@
 -- What is written of a value, its kind reads as that value.
-use Rattle.std.proofs.Common.{◌≡◌, ℕ, ℤ, pos, negsuc, zero, suc, ◌<◌, ◌^◌, Bool, true, false, cond, ◌&&◌, T, List, [], ◌∷◌, map, Option, Some, None, option_map, option_and_then, Ordering, Less, Equal, Greater, refl, sym, ap, ◌∙◌, arith, lt-ltb}
-use Rattle.std.specs.Prelude.{All, FitsSigned}
+use Rattle.std.proofs.Common.{◌≡◌, ℕ, ℤ, pos, negsuc, ◌<◌, ◌^◌, Bool, true, false, cond, ◌&&◌, T, List, [], ◌∷◌, map, Option, Some, None, option_map, option_and_then, Ordering, Less, Equal, Greater, refl, ap, ◌∙◌, lt-ltb}
+use Rattle.std.specs.Prelude.{All, FitsSigned, IfSome}
 use Rattle.std.specs.Int.{w64}
 use Rattle.std.specs.FinMap.{entries, from_sorted, is_sorted, entries-from_sorted, entries_sorted, same_entries_map}
 use Rattle.std.specs.Ordering.{nat_cmp, is_lt}
@@ -12,11 +12,12 @@ use Rattle.lg_calls.specs.declared.info.Info.{Info}
 use Rattle.lg_calls.specs.declared.info.Info.TheVariants as I
 use Rattle.lg_calls.specs.declared.status.Status.{Status}
 use Rattle.lg_calls.specs.declared.status.Status.TheVariants.{Pending, Running, BatchRunning, Done, Failed, Disabled, Unknown}
-use Rattle.lg_json.specs.Tree.{Tree, null, truth, int, str, trees_of, Members, no_members, member, members_of as tree_members}
+use Rattle.lg_json.specs.Tree.{Tree, int, str, trees_of, Members, members_of as tree_members}
 use Rattle.serde_json.specs.Data.{Data}
 use Rattle.serde_json.specs.Find.{as_str}
+use Rattle.lg_snapshot.specs.Fitting.{AreAmounts, IsSignedInfo}
 use Rattle.lg_snapshot.specs.Holding.{IsHeld, AreHeld, MembersAreHeld}
-use Rattle.lg_snapshot.specs.Kinds.{number_in, int_in, small, amount_in, moment_in, status_in, maybe_in, each_item, list_in, each_member, pairs_in, amounts_of, amounts_in, info_in}
+use Rattle.lg_snapshot.specs.Kinds.{number_in, int_in, amount_in, moment_in, status_in, maybe_in, each_item, list_in, each_member, pairs_in, amounts_of, amounts_in, info_in}
 use Rattle.lg_snapshot.specs.Trees.{number, moment, status, maybe, listed, by_name, amounts, info}
 use Rattle.lg_snapshot.proofs.ReadBack.{data_of, items_of, members_of, ComesBefore, IsInOrder, AreInOrder, MembersAreInOrder}
 
@@ -33,12 +34,12 @@ status_back Failed = refl
 status_back Disabled = refl
 status_back Unknown = refl
 
-pub info_back : (i : Info) → IsHeld (info i) → info_in (data_of (info i)) ≡ Some i
-info_back (I.Text text) held = refl
-info_back (I.Number (pos n)) held = ap (λ b. option_map I.Number (cond b (Some (pos n)) None)) (lt-ltb n (2 ^ 63) held.sfits)
-info_back (I.Number (negsuc n)) held = refl
-info_back (I.Truth b) held = refl
-info_back I.Null held = refl
+pub info_back : (i : Info) → IsSignedInfo i → info_in (data_of (info i)) ≡ Some i
+info_back (I.Text text) fits = refl
+info_back (I.Number (pos n)) fits = ap (λ b. option_map I.Number (cond b (Some (pos n)) None)) (lt-ltb n (2 ^ 63) fits.sfits)
+info_back (I.Number (negsuc n)) fits = refl
+info_back (I.Truth b) fits = refl
+info_back I.Null fits = refl
 
 pub maybe_text : (o : Option (List ℕ)) → maybe_in as_str (data_of (maybe str o)) ≡ Some o
 maybe_text None = refl
@@ -52,9 +53,9 @@ pub maybe_number : (o : Option ℕ) → maybe_in number_in (data_of (maybe numbe
 maybe_number None = refl
 maybe_number (Some n) = refl
 
-pub maybe_int : (o : Option ℤ) → IsHeld (maybe int o) → maybe_in int_in (data_of (maybe int o)) ≡ Some o
-maybe_int None held = refl
-maybe_int (Some z) held = ap (option_map (λ (y : ℤ). Some y)) (int_back z held)
+pub maybe_int : (o : Option ℤ) → IfSome o (FitsSigned w64) → maybe_in int_in (data_of (maybe int o)) ≡ Some o
+maybe_int None fits = refl
+maybe_int (Some z) fits = ap (option_map (λ (y : ℤ). Some y)) (int_back z fits)
 
 -- ---- lists and objects
 
@@ -97,8 +98,8 @@ module _ {A : Type 0} (tree : A → Tree) (kind : Data → Option A) (Q : List �
 pub params_back : (pairs : List (List ℕ × List ℕ)) → IsHeld (by_name str pairs) → pairs_in as_str (data_of (by_name str pairs)) ≡ Some pairs
 params_back pairs held = pairs_back str as_str Holds (λ p held _. refl) pairs held (no_more pairs)
 
-pub infos_back : (pairs : List (List ℕ × Info)) → IsHeld (by_name info pairs) → pairs_in info_in (data_of (by_name info pairs)) ≡ Some pairs
-infos_back pairs held = pairs_back info info_in Holds (λ p held _. info_back p.1 held) pairs held (no_more pairs)
+pub infos_back : (pairs : List (List ℕ × Info)) → IsHeld (by_name info pairs) → All (λ (pair : List ℕ × Info). IsSignedInfo pair.1) pairs → pairs_in info_in (data_of (by_name info pairs)) ≡ Some pairs
+infos_back pairs held fit = pairs_back info info_in (λ (pair : List ℕ × Info). IsSignedInfo pair.1) (λ p held fits. info_back p.1 fits) pairs held fit
 
 true_of : (b : Bool) → T b → b ≡ true
 true_of true holds = refl
@@ -110,7 +111,7 @@ sorted_amounts m =
     ap (λ b. cond b (Some (from_sorted (entries m))) None) (true_of (is_sorted (slice_cmp nat_cmp) (entries m)) order)
     ∙ ap (λ (n : AmountsByName). Some n) (same_entries_map (from_sorted (entries m)) m (entries-from_sorted (slice_cmp nat_cmp) (entries m) order))
 
-pub amounts_back : (m : AmountsByName) → IsHeld (amounts m) → All (λ (entry : List ℕ × ℕ). entry.1 < 2 ^ 32) (entries m) → amounts_in (data_of (amounts m)) ≡ Some m
+pub amounts_back : (m : AmountsByName) → IsHeld (amounts m) → AreAmounts m → amounts_in (data_of (amounts m)) ≡ Some m
 amounts_back m held all =
     ap (option_and_then amounts_of)
     (pairs_back number amount_in (λ (entry : List ℕ × ℕ). entry.1 < 2 ^ 32) (λ p held is. ap (λ b. cond b (Some p.1) None) (lt-ltb p.1 (2 ^ 32) is)) (entries m) held all)

@@ -3,6 +3,7 @@ mod AsciiLemmas
 mod Commas
 mod DecodingLemmas
 mod FieldLemmas
+mod HoldingLemmas
 mod ItemLemmas
 mod KindBack
 mod Names

@@ -1,7 +1,6 @@
 -- What is written of a tree, JSON reads as that tree.
 use Rattle.std.proofs.Common.{◌≡◌, ℕ, ℤ, pos, negsuc, zero, suc, ◌≤◌, Bool, true, false, cond, List, [], ◌∷◌, ◌++◌, Some, option_and_then, option_map, refl, sym, ap, ap₂, ◌∙◌, arith, append_assoc, append-nil, codes, flat_map, subst}
-use Rattle.std.specs.Prelude.{IsUtf8, encode_utf8_all, FitsSigned}
-use Rattle.std.specs.Int.{w64}
+use Rattle.std.specs.Prelude.{IsUtf8, encode_utf8_all}
 use Rattle.std.specs.Ordering.{nat_cmp, ordering_reverse}
 use Rattle.std.specs.declared.cmp.Ordering.TheVariants.{Less, Greater}
 use Rattle.std.specs.Cmp.Lexicographic.{slice_cmp}
@@ -12,13 +11,13 @@ use Rattle.std.proofs.lemmas.Str.{chars-encodes}
 use Rattle.std.proofs.lemmas.Cmp.{nat_list_cmp_total}
 use lib.Utf8.{scalar, scalars}
 use Rattle.json.specs.Json as json
-use Rattle.json.specs.Lex.{Lexeme, token, comma, colon, lex, between, in_string, string_token, fresh, punctuate, tokens}
+use Rattle.json.specs.Lex.{token, comma, colon, lex, between, in_string, string_token, fresh, punctuate, tokens}
 use Rattle.json.specs.Print as print
 use Rattle.json.specs.Text.{content, plain, prepend}
 use Rattle.json.specs.Token as tok
 use Rattle.json.specs.Tree as shape
 use Rattle.json.specs.Word.{ends_word, word}
-use Rattle.json.proofs.Printed.Decimals.{IsNumber-signed_decimal}
+use Rattle.json.proofs.Printed.Decimals.{IsNumber-decimal, IsNumber-signed_decimal}
 use Rattle.json.proofs.Printed.Numbers.{lex-number, in_word-ended}
 use Rattle.json.proofs.Printed.Strings.{content-escape, lex-escape}
 use Rattle.json.proofs.Printed.Tokens.{tokens-print}
@@ -33,7 +32,7 @@ use Rattle.serde_json.proofs.Texts.{print-outline}
 use Rattle.lg_json.specs.Escapes.{escape, escaped}
 use Rattle.lg_json.specs.Text.{quoted, with_commas, text_of, texts_of, member_texts_of}
 use Rattle.lg_json.specs.Tree.{Tree, null, truth, int, str, list, object, Trees, no_trees, tree, Members, no_members, member}
-use Rattle.lg_snapshot.specs.Holding.{IsHeld, AreHeld, MembersAreHeld}
+use Rattle.lg_snapshot.specs.Holding.{IsHeldNumber, IsHeld, AreHeld, MembersAreHeld}
 use Rattle.lg_snapshot.proofs.QuoteReading.{passes}
 
 -- ---- the value that a tree is
@@ -136,8 +135,12 @@ lex_false : (r : List ℕ) → ends_word r ≡ true → lex between (codes "fals
 unfolding lex word
 lex_false r ended = ap₂ (λ b ls. token (cond b (tok.boolean false) tok.bad) ∷ ls) ended (in_word-ended r ended)
 
-lex_int : (n : ℤ) (r : List ℕ) → FitsSigned w64 n → ends_word r ≡ true → lex between (signed_decimal n ++ r) ≡ token (tok.number (signed_decimal n)) ∷ lex between r
-lex_int n r fits ended = lex-number (signed_decimal n) r (IsNumber-signed_decimal n fits.sfits) ended
+number_spelled : (n : ℤ) → IsHeldNumber n → print.IsNumber (signed_decimal n)
+number_spelled (pos n) held = IsNumber-decimal n held
+number_spelled (negsuc n) held = IsNumber-signed_decimal (negsuc n) held
+
+lex_int : (n : ℤ) (r : List ℕ) → IsHeldNumber n → ends_word r ≡ true → lex between (signed_decimal n ++ r) ≡ token (tok.number (signed_decimal n)) ∷ lex between r
+lex_int n r held ended = lex-number (signed_decimal n) r (number_spelled n held) ended
 
 same_number : (n : ℤ) → number_text (of_integer n) ≡ signed_decimal n
 same_number (pos n) = refl
@@ -254,7 +257,7 @@ mutual
   numbers_in : (t : Tree) → IsHeld t → shape.HasNumbers (outline (data_of t))
   numbers_in null held = tt
   numbers_in (truth b) held = tt
-  numbers_in (int n) held = subst print.IsNumber (sym (same_number n)) (IsNumber-signed_decimal n held.sfits)
+  numbers_in (int n) held = subst print.IsNumber (sym (same_number n)) (number_spelled n held)
   numbers_in (str text) held = tt
   numbers_in (list ts) held = numbers_in_items ts held
   numbers_in (object ms) held = numbers_in_members ms held
@@ -332,9 +335,9 @@ goes_on : (name : List ℕ) (d : Data) (found : value.Members) (ms : Members) �
 goes_on name d found no_members before behind = tt
 goes_on name d found (member other t ms) before behind = one_more_behind name other d found before behind
 
-number_read : (n : ℤ) → FitsSigned w64 n → number_of (number_text (of_integer n)) ≡ Some (of_integer n)
-number_read (pos n) fits = let small = fits.sfits in number_of-decimal n (omega arith)
-number_read (negsuc n) fits = number_of-negative n fits.sfits
+number_read : (n : ℤ) → IsHeldNumber n → number_of (number_text (of_integer n)) ≡ Some (of_integer n)
+number_read (pos n) held = number_of-decimal n held
+number_read (negsuc n) held = number_of-negative n held
 
 none_before : (ms : Members) → GoesOn value.no_members ms
 none_before no_members = tt

@@ -1,27 +1,25 @@
 -- What is written of a record is read as that record.
-use Rattle.std.proofs.Common.{◌≡◌, ℕ, ◌<◌, ◌^◌, zero, suc, true, T, List, [], ◌∷◌, map, Option, Some, None, option_map, codes, drop, refl, sym, ap, ◌∙◌}
-use Rattle.std.specs.Prelude.{All}
+use Rattle.std.proofs.Common.{◌≡◌, ℕ, suc, true, List, Option, Some, option_map, codes, drop, refl, ap, ◌∙◌}
 use Rattle.std.specs.FinMap.{entries, entries_sorted}
-use Rattle.std.proofs.lemmas.List.Elements.{All-head, All-tail}
-use Rattle.serde_json.specs.Data.{Data, Members, no_members, member}
+use Rattle.serde_json.specs.Data.{Data, Members, member}
 use Rattle.serde_json.specs.Find.{as_bool, as_str}
 use Rattle.lg_calls.specs.declared.batcher.BatcherRec.{BatcherRec}
 use Rattle.lg_calls.specs.declared.worker.WorkerRec.{WorkerRec}
 use Rattle.lg_calls.specs.Task.{Task}
-use Rattle.lg_json.specs.Tree.{Tree, truth, int, str, members_of as tree_members}
+use Rattle.lg_json.specs.Tree.{int, str, members_of as tree_members}
 use Rattle.lg_base.specs.Names as names
 use Rattle.lg_retry.specs.declared.policy.Policy.{Policy}
 use Rattle.lg_retry.specs.Failures.{History}
-use Rattle.lg_snapshot.specs.Holding.{IsHeld, AreHeld, MembersAreHeld}
+use Rattle.lg_snapshot.specs.Fitting.{TaskFits, WorkerFits}
+use Rattle.lg_snapshot.specs.Holding.{IsHeld}
 use Rattle.lg_snapshot.specs.Kinds.{number_in, int_in, moment_in, status_in, maybe_in, list_in, pairs_in, amounts_in, info_in}
 use Rattle.lg_snapshot.specs.Reading.{Reading, ◌>>=◌, read_on, done, where_named, entry, record_in}
 use Rattle.lg_snapshot.specs.RecordReadings.{policy, failures, batcher, worker}
-use Rattle.lg_snapshot.specs.Records.{Fields, policy_fields, failure_fields, task_fields, worker_fields, batcher_fields, tree_of_policy, tree_of_failures, tree_of_task, tree_of_worker, tree_of_batcher}
-use Rattle.lg_snapshot.specs.Snapshot.{AreAmounts}
-use Rattle.lg_snapshot.specs.TaskReading.{first, second, third, fourth, fifth, sixth, put_together, task}
-use Rattle.lg_snapshot.specs.Trees.{number, moment, status, maybe, listed, by_name, amounts, info}
+use Rattle.lg_snapshot.specs.Records.{Fields, task_fields, tree_of_policy, tree_of_failures, tree_of_task, tree_of_worker, tree_of_batcher}
+use Rattle.lg_snapshot.specs.TaskReading.{first, second, third, fourth, fifth, sixth, task}
+use Rattle.lg_snapshot.specs.Trees.{number, moment, info}
 use Rattle.lg_snapshot.proofs.KindBack.{int_back, status_back, maybe_text, maybe_moment, maybe_number, maybe_int, Holds, no_more, texts_back, moments_back, params_back, infos_back, amounts_back, maybe_order, list_order, named_order, info_order}
-use Rattle.lg_snapshot.proofs.ReadBack.{data_of, items_of, members_of, IsInOrder, AreInOrder, MembersAreInOrder}
+use Rattle.lg_snapshot.proofs.ReadBack.{data_of, members_of, IsInOrder}
 use Rattle.lg_snapshot.proofs.ReadingLemmas.{member_entry}
 
 -- the members of an object that has these fields
@@ -67,13 +65,13 @@ batcher_back batcher held =
     (step (codes "worker") as_str _ _ _ batcher.worker _ refl
     refl))))
 
-pub worker_back : (w : WorkerRec) → IsHeld (tree_of_worker w) → record_in worker (data_of (tree_of_worker w)) ≡ Some w
+pub worker_back : (w : WorkerRec) → IsHeld (tree_of_worker w) → WorkerFits w → record_in worker (data_of (tree_of_worker w)) ≡ Some w
 unfolding worker done
-worker_back worker held =
+worker_back worker held fits =
     ap (option_map (λ read. read.0))
     (step (codes "disabled") as_bool _ _ _ worker.disabled _ refl
     (step (codes "id") as_str _ _ _ worker.id _ refl
-    (step (codes "info") (pairs_in info_in) _ _ _ worker.info _ (infos_back worker.info held.2.2.1)
+    (step (codes "info") (pairs_in info_in) _ _ _ worker.info _ (infos_back worker.info held.2.2.1 fits)
     (step (codes "last_active") moment_in _ _ _ worker.last_active _ refl
     (step (codes "last_get_work") (maybe_in moment_in) _ _ _ worker.last_get_work _ (maybe_moment worker.last_get_work)
     (step (codes "started") moment_in _ _ _ worker.started _ refl
@@ -101,22 +99,22 @@ second_back task held =
     (step (codes "id") as_str _ _ _ task.id _ refl
     refl)))))
 
-third_back : (task : Task) → IsHeld (tree_of_task task) → third (said (drop 10 (task_fields task))) ≡ Some (record { «module» = task.«module»; number = task.number; params = task.params; policy = task.policy; priority = task.priority }, said (drop 15 (task_fields task)))
+third_back : (task : Task) → IsHeld (tree_of_task task) → TaskFits task → third (said (drop 10 (task_fields task))) ≡ Some (record { «module» = task.«module»; number = task.number; params = task.params; policy = task.policy; priority = task.priority }, said (drop 15 (task_fields task)))
 unfolding third done
-third_back task held =
+third_back task held fits =
     (step (codes "module") (maybe_in as_str) _ _ _ task.«module» _ (maybe_text task.«module»)
     (step (codes "number") number_in _ _ _ task.number _ refl
     (step (codes "params") (pairs_in as_str) _ _ _ task.params _ (params_back task.params held.2.2.2.2.2.2.2.2.2.2.2.2.1)
     (step (codes "policy") (record_in policy) _ _ _ task.policy _ (policy_back task.policy)
-    (step (codes "priority") int_in _ _ _ task.priority _ (int_back task.priority held.2.2.2.2.2.2.2.2.2.2.2.2.2.2.1)
+    (step (codes "priority") int_in _ _ _ task.priority _ (int_back task.priority fits.priority)
     refl)))))
 
-fourth_back : (task : Task) → IsHeld (tree_of_task task) → AreAmounts task.resources → fourth (said (drop 15 (task_fields task))) ≡ Some (record { progress = task.progress; remove = task.remove; resources = task.resources; retry = task.retry; runnable = task.runnable }, said (drop 20 (task_fields task)))
+fourth_back : (task : Task) → IsHeld (tree_of_task task) → TaskFits task → fourth (said (drop 15 (task_fields task))) ≡ Some (record { progress = task.progress; remove = task.remove; resources = task.resources; retry = task.retry; runnable = task.runnable }, said (drop 20 (task_fields task)))
 unfolding fourth done
-fourth_back task held few =
-    (step (codes "progress") (maybe_in int_in) _ _ _ task.progress _ (maybe_int task.progress held.2.2.2.2.2.2.2.2.2.2.2.2.2.2.2.1)
+fourth_back task held fits =
+    (step (codes "progress") (maybe_in int_in) _ _ _ task.progress _ (maybe_int task.progress fits.progress)
     (step (codes "remove") (maybe_in moment_in) _ _ _ task.remove _ (maybe_moment task.remove)
-    (step (codes "resources") amounts_in _ _ _ task.resources _ (amounts_back task.resources held.2.2.2.2.2.2.2.2.2.2.2.2.2.2.2.2.2.1 few)
+    (step (codes "resources") amounts_in _ _ _ task.resources _ (amounts_back task.resources held.2.2.2.2.2.2.2.2.2.2.2.2.2.2.2.2.2.1 fits.resources)
     (step (codes "retry") (maybe_in moment_in) _ _ _ task.retry _ (maybe_moment task.retry)
     (step (codes "runnable") as_bool _ _ _ task.runnable _ refl
     refl)))))
@@ -139,14 +137,14 @@ sixth_back task held =
     (step (codes "workers") (list_in as_str) _ _ _ task.workers _ (texts_back task.workers held.2.2.2.2.2.2.2.2.2.2.2.2.2.2.2.2.2.2.2.2.2.2.2.2.2.2.2.1)
     refl))))
 
-pub task_back : (t : Task) → IsHeld (tree_of_task t) → AreAmounts t.resources → record_in task (data_of (tree_of_task t)) ≡ Some t
+pub task_back : (t : Task) → IsHeld (tree_of_task t) → TaskFits t → record_in task (data_of (tree_of_task t)) ≡ Some t
 unfolding task done
-task_back t held few =
+task_back t held fits =
     ap (option_map (λ read. read.0))
     (part first _ _ (said (drop 5 (task_fields t))) (record { accepts_messages = t.accepts_messages; added = t.added; batch = t.batch; batchable = t.batchable; deps = t.deps }) _ (first_back t held)
     (part second _ _ (said (drop 10 (task_fields t))) (record { disabled_at = t.disabled_at; expl = t.expl; failures = (record { first = t.failures.first; moments = t.failures.moments }); family = t.family; id = t.id }) _ (second_back t held)
-    (part third _ _ (said (drop 15 (task_fields t))) (record { «module» = t.«module»; number = t.number; params = t.params; policy = t.policy; priority = t.priority }) _ (third_back t held)
-    (part fourth _ _ (said (drop 20 (task_fields t))) (record { progress = t.progress; remove = t.remove; resources = t.resources; retry = t.retry; runnable = t.runnable }) _ (fourth_back t held few)
+    (part third _ _ (said (drop 15 (task_fields t))) (record { «module» = t.«module»; number = t.number; params = t.params; policy = t.policy; priority = t.priority }) _ (third_back t held fits)
+    (part fourth _ _ (said (drop 20 (task_fields t))) (record { progress = t.progress; remove = t.remove; resources = t.resources; retry = t.retry; runnable = t.runnable }) _ (fourth_back t held fits)
     (part fifth _ _ (said (drop 24 (task_fields t))) (record { stakeholders = t.stakeholders; status = t.status; status_message = t.status_message; time_running = t.time_running }) _ (fifth_back t held)
     (part sixth _ _ (said (drop 28 (task_fields t))) (record { tracking_url = t.tracking_url; updated = t.updated; worker_running = t.worker_running; workers = t.workers }) _ (sixth_back t held)
     refl))))))

@@ -1,27 +1,23 @@
 -- What is written of a state is read as that state, so that a text has one state at most.
-use Rattle.std.proofs.Common.{◌≡◌, ℕ, ◌++◌, List, [], ◌∷◌, Option, Some, None, option_map, option_and_then, codes, drop, refl, sym, ap, ◌∙◌}
-use Rattle.std.specs.Prelude.{All}
+use Rattle.std.proofs.Common.{◌≡◌, ℕ, List, Option, Some, None, option_map, option_and_then, codes, refl, sym, ap, ◌∙◌}
 use Rattle.std.specs.FinMap.{entries, entries_sorted}
-use Rattle.serde_json.specs.Data.{Data}
 use Rattle.serde_json.specs.Find.{as_bool}
 use Rattle.serde_json.specs.Read.{max_depth, read}
 use Rattle.lg_calls.specs.declared.settings.Settings.{Settings}
 use Rattle.lg_calls.specs.declared.state.State.{State}
 use Rattle.lg_calls.specs.Valid.{IsValidState, IsValidTask, IsValidWorker}
-use Rattle.lg_calls.specs.Task.{Task}
-use Rattle.lg_json.specs.Text.{text_of}
-use Rattle.lg_snapshot.specs.Holding.{IsHeld}
+use Rattle.lg_snapshot.specs.Fitting.{TaskFits, WorkerFits}
 use Rattle.lg_snapshot.specs.Kinds.{number_in, moment_in, list_in, amounts_in}
-use Rattle.lg_snapshot.specs.Reading.{record_in, ◌>>=◌, done}
+use Rattle.lg_snapshot.specs.Reading.{record_in, done}
 use Rattle.lg_snapshot.specs.RecordReadings.{batcher, worker}
-use Rattle.lg_snapshot.specs.Records.{state_fields, tree_of_state, tree_of_batcher, tree_of_worker, tree_of_task}
-use Rattle.lg_snapshot.specs.Snapshot.{snapshot_text, AreAmounts, IsHeldState, IsSnapshotOf}
+use Rattle.lg_snapshot.specs.Records.{tree_of_state, tree_of_batcher, tree_of_worker, tree_of_task}
+use Rattle.lg_snapshot.specs.Snapshot.{snapshot_text, IsHeldState, IsSnapshotOf}
 use Rattle.lg_snapshot.specs.StateReading.{state}
 use Rattle.lg_snapshot.specs.TaskReading.{task}
 use Rattle.lg_snapshot.specs.Trees.{number}
 use Rattle.lg_snapshot.proofs.KindBack.{Holds, no_more, list_back, amounts_back, list_order, named_order}
 use Rattle.lg_snapshot.proofs.ReadBack.{data_of, IsInOrder, read-text_of}
-use Rattle.lg_snapshot.proofs.RecordBack.{said, step, batcher_back, worker_back, task_back, batcher_order, worker_order, task_order}
+use Rattle.lg_snapshot.proofs.RecordBack.{step, batcher_back, worker_back, task_back, batcher_order, worker_order, task_order}
 
 -- the value of a state's tree is read as the state, but for its settings and pruning
 tree_back : (settings : Settings) (s : State) → IsHeldState s → record_in (state settings) (data_of (tree_of_state s)) ≡ Some (record s { pruned = None; settings = settings })
@@ -33,9 +29,9 @@ tree_back settings s held =
     (step (codes "moment") moment_in _ _ _ s.moment _ refl
     (step (codes "next") number_in _ _ _ s.next _ refl
     (step (codes "paused") as_bool _ _ _ s.paused _ refl
-    (step (codes "tasks") (list_in (record_in task)) _ _ _ s.tasks _ (list_back tree_of_task (record_in task) (λ t. AreAmounts t.resources) (λ t held few. task_back t held few) s.tasks held.tree.2.2.2.2.2.1 held.resources)
+    (step (codes "tasks") (list_in (record_in task)) _ _ _ s.tasks _ (list_back tree_of_task (record_in task) TaskFits (λ t held fits. task_back t held fits) s.tasks held.tree.2.2.2.2.2.1 held.tasks)
     (step (codes "version") number_in _ _ _ 1 _ refl
-    (step (codes "workers") (list_in (record_in worker)) _ _ _ s.workers _ (list_back tree_of_worker (record_in worker) Holds (λ w held _. worker_back w held) s.workers held.tree.2.2.2.2.2.2.2.1 (no_more s.workers))
+    (step (codes "workers") (list_in (record_in worker)) _ _ _ s.workers _ (list_back tree_of_worker (record_in worker) WorkerFits (λ w held fits. worker_back w held fits) s.workers held.tree.2.2.2.2.2.2.2.1 held.workers)
     refl))))))))
 
 -- the names of a valid state's tree rise

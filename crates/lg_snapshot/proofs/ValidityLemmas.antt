@@ -1,28 +1,24 @@
 -- A state passes exactly where it is valid.
-use Rattle.std.proofs.Common.{◌≡◌, ℕ, zero, suc, ◌<◌, ◌≤◌, ◌^◌, ◌+◌, Bool, true, false, not, ◌&&◌, ◌||◌, T, List, [], ◌∷◌, map, length, get_or, Option, Some, None, is_some, Result, Ok, Err, refl, sym, ap, ◌∙◌, arith, lt-ltb, le-leb, true≢false}
-use Rattle.std.specs.Prelude.{All, IsSome, IfSome, IfOk, nat_lt, nat_le}
+use Rattle.std.proofs.Common.{◌≡◌, ℕ, zero, suc, ◌<◌, ◌≤◌, ◌^◌, Bool, true, false, not, ◌&&◌, T, List, [], ◌∷◌, map, Option, Some, None, is_some, Result, Ok, Err, refl, sym, ap, ◌∙◌, arith, lt-ltb, le-leb, true≢false}
+use Rattle.std.specs.Prelude.{All, IfSome, IfOk, nat_lt}
 use Rattle.std.specs.List.{list_all}
-use Rattle.std.specs.FinMap.{is_sorted}
-use Rattle.std.specs.Ordering.{nat_cmp}
-use Rattle.std.specs.Cmp.Lexicographic.{slice_cmp}
 use Rattle.std.proofs.lemmas.Bool.{ltb-true, leb-true, not-true}
 use Rattle.std.proofs.lemmas.List.Elements.{All-head, All-tail, All-cons, All-nil}
 use Rattle.lg_base.specs.declared.moment.Moment.{Moment}
 use Rattle.lg_base.specs.Names.{AreInOrder}
-use Rattle.lg_calls.specs.declared.batcher.BatcherRec.{BatcherRec}
 use Rattle.lg_calls.specs.declared.settings.Settings.{Settings}
 use Rattle.lg_calls.specs.declared.state.State.{State}
 use Rattle.lg_calls.specs.declared.status.Status.{Status}
 use Rattle.lg_calls.specs.declared.status.Status.TheVariants.{Pending, Running, BatchRunning, Done, Failed, Disabled, Unknown}
 use Rattle.lg_calls.specs.declared.worker.WorkerRec.{WorkerRec}
-use Rattle.lg_calls.specs.Order.{is_before, all_pairs, are_sorted, are_distinct}
-use Rattle.lg_calls.specs.Settings.{AreInRange, max_time, max_count}
+use Rattle.lg_calls.specs.Order.{is_before, all_pairs, are_distinct}
+use Rattle.lg_calls.specs.Settings.{AreInRange}
 use Rattle.lg_calls.specs.Task.{Task}
-use Rattle.lg_calls.specs.Tasks.{ids_of, numbers_of}
-use Rattle.lg_calls.specs.Valid.{is_running, NotLater, FitsMoment, IsValidHistory, IsValidPolicy, IsValidTask, IsValidWorker, IsValidBatcher, IsValidState, batcher_is_before, worker_ids_of}
+use Rattle.lg_calls.specs.Tasks.{ids_of}
+use Rattle.lg_calls.specs.Valid.{is_running, NotLater, FitsMoment, IsValidHistory, IsValidPolicy, IsValidTask, IsValidWorker, IsValidBatcher, IsValidState}
 use Rattle.lg_retry.specs.declared.policy.Policy.{Policy}
 use Rattle.lg_retry.specs.Failures.{DoNotFall}
-use Rattle.lg_snapshot.specs.Validity.{is_not_later, fits, fits_moment, rests, runs, suits, policy_fits, does_not_fall, history_passes, moments_pass, name_is_before, lists_pass, task_passes, worker_passes, batcher_passes, times_pass, counts_pass, numbers_pass, passes_in, number_is_before, worker_is_before, orders_pass, records_pass, outside_passes, passes}
+use Rattle.lg_snapshot.specs.Validity.{is_not_later, fits, fits_moment, rests, runs, suits, policy_fits, does_not_fall, history_passes, name_is_before, task_passes, worker_passes, times_pass, counts_pass, passes_in, outside_passes, passes}
 use Rattle.lg_snapshot.proofs.OrderLemmas.{both, first_of, second_of, pairs_rise}
 
 false_from : (b : Bool) → (b ≡ true → ⊥) → b ≡ false

@@ -1,4 +1,5 @@
 pub mod Commas
+pub mod Fitting
 pub mod Holding
 pub mod Kinds
 pub mod Parsing

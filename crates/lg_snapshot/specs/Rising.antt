@@ -1,9 +1,9 @@
 -- Orders by which lists rise are transitive.
-use Rattle.std.proofs.Common.{◌≡◌, ℕ, Bool, true, List, Ordering, Less, Equal, Greater, refl, ap, arith, lt-ltb, le-leb}
+use Rattle.std.proofs.Common.{◌≡◌, ℕ, true, List, Ordering, Less, Equal, Greater, refl, ap, arith, lt-ltb, le-leb}
 use Rattle.std.specs.Prelude.{nat_lt, nat_le}
-use Rattle.std.specs.Ordering.{nat_cmp, is_lt}
+use Rattle.std.specs.Ordering.{is_lt}
 use Rattle.std.specs.Cmp.{then_total, on_total}
-use Rattle.std.specs.Cmp.Lexicographic.{nat_list_cmp_total, slice_cmp}
+use Rattle.std.specs.Cmp.Lexicographic.{nat_list_cmp_total}
 use Rattle.std.proofs.lemmas.Bool.{ltb-true, leb-true}
 use Rattle.lg_calls.specs.declared.batcher.BatcherRec.{BatcherRec}
 use Rattle.lg_calls.specs.Order.{is_before}

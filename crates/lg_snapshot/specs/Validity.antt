@@ -1,5 +1,5 @@
 -- Whether a state is valid, as tests that can be made. This project's own, after what `lg_calls` says of valid states.
-use Rattle.std.specs.Prelude.{ℕ, ◌^◌, ◌+◌, ◌&&◌, nat_lt, nat_le, Bool, true, false, not, Option, Some, None, is_some, List, map, length}
+use Rattle.std.specs.Prelude.{ℕ, ◌^◌, ◌&&◌, nat_lt, nat_le, Bool, true, not, Option, Some, None, is_some, List, length}
 use Rattle.std.specs.List.{list_all}
 use Rattle.lg_base.specs.declared.moment.Moment.{Moment}
 use Rattle.lg_calls.specs.declared.batcher.BatcherRec.{BatcherRec}
@@ -8,7 +8,7 @@ use Rattle.lg_calls.specs.declared.state.State.{State}
 use Rattle.lg_calls.specs.declared.status.Status.{Status}
 use Rattle.lg_calls.specs.declared.status.Status.TheVariants.{Pending, Running, BatchRunning, Done, Failed, Disabled, Unknown}
 use Rattle.lg_calls.specs.declared.worker.WorkerRec.{WorkerRec}
-use Rattle.lg_calls.specs.Order.{is_before, all_pairs, are_sorted, are_distinct}
+use Rattle.lg_calls.specs.Order.{is_before, all_pairs, are_distinct}
 use Rattle.lg_calls.specs.Settings.{max_time, max_count}
 use Rattle.lg_calls.specs.Task.{Task}
 use Rattle.lg_calls.specs.Tasks.{ids_of}

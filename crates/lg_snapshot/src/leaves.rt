@@ -1,5 +1,8 @@
 //! The values that records are made of.
+ghost use Rattle.std.specs.Int.{w64};
+ghost use Rattle.std.specs.Prelude.{◌<◌, ◌^◌, All, FitsSigned, IfSome};
 ghost use Rattle.lg_json.specs.Tree.{truth, int, str};
+ghost use Rattle.lg_snapshot.specs.Fitting.{AreAmounts, IsSignedInfo};
 ghost use Rattle.lg_snapshot.specs.Trees as spec;
 
 use crate::writing::{Output, Written};
@@ -17,6 +20,8 @@ impl Written for bool {
 impl Written for u32 {
     ghost tree = { spec.number };
 
+    ghost fits = { λ n. n < 2 ^ 32 };
+
     fn write(&self, output: &mut Output) -> Result<(), NoMemory> {
         output.word(itoa::Buffer::new().format(*self))
     }
@@ -32,6 +37,8 @@ impl Written for u64 {
 
 impl Written for i64 {
     ghost tree = { int };
+
+    ghost fits = { FitsSigned w64 };
 
     fn write(&self, output: &mut Output) -> Result<(), NoMemory> {
         output.word(itoa::Buffer::new().format(*self))
@@ -89,6 +96,8 @@ impl Written for Status {
 impl Written for Info {
     ghost tree = { spec.info };
 
+    ghost fits = { IsSignedInfo };
+
     fn write(&self, output: &mut Output) -> Result<(), NoMemory> {
         match self {
             Info::Text(text) => text.write(output),
@@ -102,6 +111,8 @@ impl Written for Info {
 impl Written for Amounts {
     ghost tree = { spec.amounts };
 
+    ghost fits = { AreAmounts };
+
     fn write(&self, output: &mut Output) -> Result<(), NoMemory> {
         output.object(self.entries())
     }
@@ -110,6 +121,8 @@ impl Written for Amounts {
 /// An absent value is null.
 impl<T: Written> Written for Option<T> {
     ghost tree = { spec.maybe T.tree };
+
+    ghost fits = { λ value. IfSome value T.fits };
 
     fn write(&self, output: &mut Output) -> Result<(), NoMemory> {
         match self {
@@ -122,6 +135,8 @@ impl<T: Written> Written for Option<T> {
 impl<T: Written> Written for Seq<T> {
     ghost tree = { spec.listed T.tree };
 
+    ghost fits = { All T.fits };
+
     fn write(&self, output: &mut Output) -> Result<(), NoMemory> {
         output.list(self.as_slice())
     }
@@ -129,6 +144,8 @@ impl<T: Written> Written for Seq<T> {
 
 impl<T: Written> Written for &[T] {
     ghost tree = { λ items. spec.listed T.tree items.now };
+
+    ghost fits = { λ items. All T.fits items.now };
 
     fn write(&self, output: &mut Output) -> Result<(), NoMemory> {
         output.list(*self)
@@ -141,6 +158,8 @@ pub(crate) struct ByName<'a, T>(pub(crate) &'a [(Name, T)]);
 
 impl<T: Written> Written for ByName<'_, T> {
     ghost tree = { λ pairs. spec.by_name T.tree pairs.0.now };
+
+    ghost fits = { λ pairs. All (λ pair. T.fits pair.1) pairs.0.now };
 
     fn write(&self, output: &mut Output) -> Result<(), NoMemory> {
         output.object(self.0)

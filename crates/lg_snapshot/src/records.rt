@@ -1,4 +1,5 @@
 //! The smaller records.
+ghost use Rattle.lg_snapshot.specs.Fitting.{WorkerFits};
 ghost use Rattle.lg_snapshot.specs.Records as spec;
 
 use crate::leaves::ByName;
@@ -30,6 +31,8 @@ impl Written for Failures {
 
 impl Written for WorkerRec {
     ghost tree = { spec.tree_of_worker };
+
+    ghost fits = { WorkerFits };
 
     fn write(&self, output: &mut Output) -> Result<(), NoMemory> {
         output.first("disabled", &self.disabled)?;

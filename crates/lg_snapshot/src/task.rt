@@ -1,4 +1,5 @@
 ghost use Rattle.std.specs.Prelude.{◌≡◌, ◌++◌, take, drop, OnOk};
+ghost use Rattle.lg_snapshot.specs.Fitting.{FieldsAreHeld, TaskFits};
 ghost use Rattle.lg_snapshot.specs.Records as spec;
 
 use crate::leaves::ByName;
@@ -8,6 +9,8 @@ use lg_calls::TaskRec;
 
 impl Written for TaskRec {
     ghost tree = { spec.tree_of_task };
+
+    ghost fits = { TaskFits };
 
     fn write(&self, output: &mut Output) -> Result<(), NoMemory> {
         output.first("accepts_messages", &self.accepts_messages)?;
@@ -20,7 +23,8 @@ impl Written for TaskRec {
 
 // The fields behind the first, up to the family.
 fn write_first(task: &TaskRec, output: &mut Output) -> Result<(), NoMemory>
-    ensures { OnOk result (output.new ≡ output.old ++ spec.more_text (take 8 (drop 1 (spec.task_fields task.now)))) }
+    ensures written { OnOk result (output.new ≡ output.old ++ spec.more_text (take 8 (drop 1 (spec.task_fields task.now)))) }
+    ensures held { OnOk result (FieldsAreHeld (take 8 (drop 1 (spec.task_fields task.now)))) }
 {
     output.next("added", &task.added)?;
     output.next("batch", &task.batch)?;
@@ -34,7 +38,9 @@ fn write_first(task: &TaskRec, output: &mut Output) -> Result<(), NoMemory>
 
 // The fields from the id up to the resources.
 fn write_middle(task: &TaskRec, output: &mut Output) -> Result<(), NoMemory>
-    ensures { OnOk result (output.new ≡ output.old ++ spec.more_text (take 9 (drop 9 (spec.task_fields task.now)))) }
+    ensures written { OnOk result (output.new ≡ output.old ++ spec.more_text (take 9 (drop 9 (spec.task_fields task.now)))) }
+    ensures held { OnOk result (FieldsAreHeld (take 9 (drop 9 (spec.task_fields task.now)))) }
+    ensures fits { OnOk result (TaskFits task.now) }
 {
     output.next("id", &task.id)?;
     output.next("module", &task.module)?;
@@ -49,7 +55,8 @@ fn write_middle(task: &TaskRec, output: &mut Output) -> Result<(), NoMemory>
 
 // The fields from the retry on.
 fn write_last(task: &TaskRec, output: &mut Output) -> Result<(), NoMemory>
-    ensures { OnOk result (output.new ≡ output.old ++ spec.more_text (drop 18 (spec.task_fields task.now))) }
+    ensures written { OnOk result (output.new ≡ output.old ++ spec.more_text (drop 18 (spec.task_fields task.now))) }
+    ensures held { OnOk result (FieldsAreHeld (drop 18 (spec.task_fields task.now))) }
 {
     output.next("retry", &task.retry)?;
     output.next("runnable", &task.runnable)?;

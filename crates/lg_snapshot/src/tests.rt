@@ -1,4 +1,5 @@
 //! The worked rows, and states in which every field is set.
+use crate::laws::written_is_read;
 use crate::{decode, encode};
 use lg_base::{Amounts, Moment, Name, NoMemory, Seq, TaskId, Text, WorkerId};
 use lg_calls::{BatcherRec, Info, Settings, State, Status, TaskRec, WorkerRec};
@@ -332,6 +333,15 @@ fn each_text_is_read_back(rt: HostRuntime) -> Result<(), Fail> {
         format!(in rt.alloc(); "{again:?}")?.as_str(),
         shown.as_str()
     );
+    Ok(())
+}
+
+#[test]
+fn what_is_written_is_read(rt: HostRuntime) -> Result<(), Fail> {
+    let state = full_state(rt.alloc())?;
+    let again = written_is_read(rt.alloc(), &state)?.expect(&rt, "the state");
+    assert_eq!(rt; again.tasks.len(), 2);
+    assert_eq!(rt; again.next, 414);
     Ok(())
 }
 

@@ -1,7 +1,8 @@
 //! Writing a snapshot piece by piece behind what is written.
-ghost use Rattle.std.specs.Prelude.{◌≡◌, [], ◌∷◌, ◌++◌, OnOk};
+ghost use Rattle.std.specs.Prelude.{◌≡◌, [], ◌∷◌, ◌++◌, All, OnOk, IsUtf8};
 ghost use Rattle.lg_json.specs.Text.{quoted, text_of, member_text};
 ghost use Rattle.lg_snapshot.specs.Commas.{comma_if};
+ghost use Rattle.lg_snapshot.specs.Holding.{IsHeld};
 ghost use Rattle.lg_snapshot.specs.Trees.{listed, by_name};
 
 use lg_base::{Name, NoMemory, Text};
@@ -30,9 +31,13 @@ pub(crate) trait Written {
 
     ghost tree: { Self → Tree };
 
-    /// Writes the value behind what is written.
+    /// What the type bounds, beyond what memory holds of each tree.
+    ghost fits: { Self → Type 0 } = { λ _. Unit {0} };
+
+    /// Writes the value behind what is written. So the value is one that memory holds.
     fn write(&self, output: &mut Output) -> Result<(), NoMemory>
-        ensures { OnOk result (output.new ≡ output.old ++ text_of (tree self.now)) };
+        ensures written { OnOk result (output.new ≡ output.old ++ text_of (tree self.now)) }
+        ensures held { OnOk result (IsHeld (tree self.now) × fits self.now) };
 }
 
 impl Output {
@@ -63,7 +68,8 @@ impl Output {
 
     /// Writes a text between quotes, with its escapes.
     pub(crate) fn quoted(&mut self, text: &str) -> Result<(), NoMemory>
-        ensures { OnOk result (self.new ≡ self.old ++ quoted text.now) }
+        ensures written { OnOk result (self.new ≡ self.old ++ quoted text.now) }
+        ensures utf8 { IsUtf8 text.now }
     {
         let quoted = quote(self.alloc, text)?;
         self.text.push_str(quoted.as_str())?;
@@ -72,7 +78,8 @@ impl Output {
 
     /// Writes a name, a colon and a value.
     pub(crate) fn member<T: Written>(&mut self, name: &str, value: &T) -> Result<(), NoMemory>
-        ensures { OnOk result (self.new ≡ self.old ++ member_text name.now (T.tree value.now)) }
+        ensures written { OnOk result (self.new ≡ self.old ++ member_text name.now (T.tree value.now)) }
+        ensures held { OnOk result (IsUtf8 name.now × IsHeld (T.tree value.now) × T.fits value.now) }
     {
         self.quoted(name)?;
         self.word(":")?;
@@ -81,7 +88,8 @@ impl Output {
 
     /// Begins an object with its first member.
     pub(crate) fn first<T: Written>(&mut self, name: &str, value: &T) -> Result<(), NoMemory>
-        ensures { OnOk result (self.new ≡ self.old ++ 123 ∷ member_text name.now (T.tree value.now)) }
+        ensures written { OnOk result (self.new ≡ self.old ++ 123 ∷ member_text name.now (T.tree value.now)) }
+        ensures held { OnOk result (IsUtf8 name.now × IsHeld (T.tree value.now) × T.fits value.now) }
     {
         self.word("{")?;
         self.member(name, value)
@@ -89,7 +97,8 @@ impl Output {
 
     /// Goes on with the next member.
     pub(crate) fn next<T: Written>(&mut self, name: &str, value: &T) -> Result<(), NoMemory>
-        ensures { OnOk result (self.new ≡ self.old ++ 44 ∷ member_text name.now (T.tree value.now)) }
+        ensures written { OnOk result (self.new ≡ self.old ++ 44 ∷ member_text name.now (T.tree value.now)) }
+        ensures held { OnOk result (IsUtf8 name.now × IsHeld (T.tree value.now) × T.fits value.now) }
     {
         self.word(",")?;
         self.member(name, value)
@@ -111,7 +120,8 @@ impl Output {
 
     /// Writes a list.
     pub(crate) fn list<T: Written>(&mut self, items: &[T]) -> Result<(), NoMemory>
-        ensures { OnOk result (self.new ≡ self.old ++ text_of (listed T.tree items.now)) }
+        ensures written { OnOk result (self.new ≡ self.old ++ text_of (listed T.tree items.now)) }
+        ensures held { OnOk result (IsHeld (listed T.tree items.now) × All T.fits items.now) }
     {
         self.word("[")?;
         let mut later = false;
@@ -125,7 +135,8 @@ impl Output {
 
     /// Writes an object of values by name.
     pub(crate) fn object<T: Written>(&mut self, pairs: &[(Name, T)]) -> Result<(), NoMemory>
-        ensures { OnOk result (self.new ≡ self.old ++ text_of (by_name T.tree pairs.now)) }
+        ensures written { OnOk result (self.new ≡ self.old ++ text_of (by_name T.tree pairs.now)) }
+        ensures held { OnOk result (IsHeld (by_name T.tree pairs.now) × All (λ pair. T.fits pair.1) pairs.now) }
     {
         self.word("{")?;
         let mut later = false;

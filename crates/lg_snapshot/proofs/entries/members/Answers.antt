@@ -1,4 +1,4 @@
-use Rattle.std.proofs.Common.{◌++◌, ◌∷◌, option_map, sym, ap, ◌∙◌}
+use Rattle.std.proofs.Common.{◌++◌, option_map, sym, ap, ◌∙◌}
 use Rattle.serde_json.specs.View.{view}
 use Rattle.lg_json.specs.Fields.{fields_view}
 use Rattle.lg_snapshot.specs.Kinds.{each_member}

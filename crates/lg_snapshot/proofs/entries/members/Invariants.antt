@@ -1,4 +1,4 @@
-use Rattle.std.proofs.Common.{◌≡◌, ℕ, ◌++◌, option_map}
+use Rattle.std.proofs.Common.{◌≡◌, ◌++◌, option_map}
 use Rattle.serde_json.specs.Events.{members_len}
 use Rattle.lg_json.specs.Fields.{fields_view}
 use Rattle.lg_snapshot.specs.Kinds.{each_member}
