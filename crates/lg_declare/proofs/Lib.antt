@@ -1,5 +1,10 @@
+pub mod DeclaringLemmas
+pub mod DocumentLemmas
+pub mod KindLemmas
+pub mod LoopLemmas
 pub mod NameLemmas
 pub mod PieceLemmas
 pub mod ReaderLemmas
 pub mod TemplateLaws
 pub mod TemplateLemmas
+pub mod WordLemmas

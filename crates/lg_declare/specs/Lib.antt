@@ -1,5 +1,14 @@
 pub mod Answers
+pub mod Commands
+pub mod Declaring
+pub mod Families
+pub mod Keys
+pub mod Kinds
 pub mod Names
+pub mod Parameters
 pub mod Pieces
 pub mod Reader
+pub mod Reading
+pub mod Requirements
 pub mod Template
+pub mod Terms
