@@ -14,9 +14,7 @@ mod adding;
 mod claims;
 mod enabling;
 mod plain;
-mod rising;
 mod rules;
-mod steps;
 mod windows;
 
 // Two failures within the hour are too many.
