@@ -5,6 +5,7 @@ use Rattle.std.specs.Option.{option_map_or}
 use Rattle.lg_base.specs.declared.moment.Moment.{Moment}
 use Rattle.lg_json.specs.Tree.{null}
 use Rattle.lg_calls.specs.declared.methods.add_task.AddTask.{AddTask}
+use Rattle.lg_calls.specs.declared.methods.get_work.GetWork.{GetWork}
 use Rattle.lg_calls.specs.declared.request.Request.{Request}
 use Rattle.lg_calls.specs.declared.request.Request.TheVariants as R
 use Rattle.lg_calls.specs.declared.state.State.{State}
@@ -17,6 +18,7 @@ use Rattle.lg_calls.specs.AddTask.Making.{made, with_task}
 use Rattle.lg_calls.specs.AddTask.Offering.{as_urgent, offered, offers, policy_with, runnable_by, urged, with_policy}
 use Rattle.lg_calls.specs.AddTask.Reporting.{counts, needs_reported, resources_set, run_begun, status_counted, status_of, status_reported, task_reported, with_deps}
 use Rattle.lg_calls.specs.AddTask.Wanting.{deps_made, stakes_added, wanted, wants}
+use Rattle.lg_calls.specs.Methods.GetWork.{assistant_marked, given_or_again, given_to, heard_asking, newly_chosen, newly_given, nothing_to_do, work_given}
 use Rattle.lg_calls.specs.Methods.UpdateResource.{limit_set}
 use Rattle.lg_calls.specs.Outcome.{Outcome, full, replied}
 use Rattle.lg_calls.specs.Pausing.{set_paused}
@@ -28,7 +30,9 @@ use Rattle.lg_calls.specs.Step.{applied}
 use Rattle.lg_calls.specs.Task.{Task}
 use Rattle.lg_calls.specs.Tasks.{find_task}
 use Rattle.lg_calls.specs.Valid.{is_running}
-use Rattle.lg_calls.specs.Workers.{touched}
+use Rattle.lg_calls.specs.Work.Again.{given_again}
+use Rattle.lg_calls.specs.Work.Assigning.{assigned}
+use Rattle.lg_calls.specs.Workers.{is_disabled, touched}
 
 -- two states have one moment
 abbrev Keeps : State → State → Type 0
@@ -122,10 +126,32 @@ keeps-limit_set : (s : State) (resource : List ℕ) (amount : ℤ) → Keeps s (
 keeps-limit_set s resource (pos n) = refl
 keeps-limit_set s resource (negsuc n) = refl
 
+keeps-newly_given : (ask : GetWork) (s : State) → Keeps s (newly_given ask s).0
+keeps-newly_given ask s = by_found s (λ task. assigned ask.worker task.id s) (λ task. refl) (newly_chosen ask s)
+
+keeps-given_or_again : (ask : GetWork) (s : State) (choice : Option Task) → Keeps s (given_or_again ask s choice).0
+keeps-given_or_again ask s None = keeps-newly_given ask s
+keeps-given_or_again ask s (Some task) = refl
+
+keeps-marked : (ask : GetWork) (s : State) → Keeps s (assistant_marked ask s)
+keeps-marked ask s = chosen ask.assistant s (assistant_marked (record ask { assistant = true }) s) s refl refl
+
+keeps-work_given : (ask : GetWork) (s : State) → Keeps s (work_given ask s).0
+  unfolding work_given
+keeps-work_given ask s = by_disabled (is_disabled ask.worker here.workers) where
+  here : State
+  here = heard_asking ask s
+  marked : State
+  marked = assistant_marked ask here
+  by_disabled : (b : Bool) → Keeps s (cond {A = State × Outcome} b (here, replied (nothing_to_do ask.worker here)) (given_to ask marked)).0
+  by_disabled true = refl
+  by_disabled false = keeps-given_or_again ask marked (given_again ask marked) ∙ keeps-marked ask here
+
 -- what a request does leaves the moment
 pub applied-moment : (s : State) (request : Request) → Keeps s (applied s request).0
 applied-moment s (R.AddTask ask) = keeps-task_added ask s
 applied-moment s (R.ForgiveFailures ask) = keeps-set_where can_be_forgiven Pending ask.task_id s
+applied-moment s (R.GetWork ask) = keeps-work_given ask s
 applied-moment s (R.MarkAsDone ask) = keeps-set_where can_be_done Done ask.task_id s
 applied-moment s R.Pause = keeps-set_paused true s
 applied-moment s R.Unpause = keeps-set_paused false s

@@ -9,6 +9,7 @@ pub mod Method
 pub mod Methods
 pub mod Order
 pub mod Outcome
+pub mod Paths
 pub mod Pausing
 pub mod Pruning
 pub mod Raising
@@ -26,7 +27,11 @@ pub mod Step
 pub mod Task
 pub mod TaskView
 pub mod Tasks
+pub mod Upstream
+pub mod Use
 pub mod Valid
 pub mod ValidOnce
+pub mod Views
 pub mod Words
+pub mod Work
 pub mod Workers

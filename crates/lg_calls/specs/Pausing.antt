@@ -8,5 +8,5 @@ abbrev pub set_paused : Bool → State → State
 set_paused paused s = if s.settings.pause_enabled then record s { paused = paused } else s
 
 -- what is replied to a question that is answered by yes or no
-abbrev pub answered : List ℕ → Bool → Tree
-answered name answer = object (member name (truth answer) no_members)
+abbrev pub yes_or_no : List ℕ → Bool → Tree
+yes_or_no name answer = object (member name (truth answer) no_members)

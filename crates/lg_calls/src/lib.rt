@@ -22,6 +22,7 @@ mod status;
 mod task;
 #[cfg(test)]
 mod tests;
+mod upstream;
 mod words;
 mod worker;
 
@@ -59,4 +60,5 @@ pub use settings::Settings;
 pub use state::State;
 pub use status::{Reported, Status};
 pub use task::TaskRec;
+pub use upstream::UpstreamStatus;
 pub use worker::WorkerRec;

@@ -1,0 +1,11 @@
+pub mod Counts
+pub mod DisplayName
+pub mod Errors
+pub mod PendingCounts
+pub mod Records
+pub mod ResourceList
+pub mod Resources
+pub mod TaskRecord
+pub mod TaskSearch
+pub mod Trees
+pub mod Workers
