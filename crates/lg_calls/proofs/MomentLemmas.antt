@@ -137,12 +137,14 @@ keeps-marked : (ask : GetWork) (s : State) → Keeps s (assistant_marked ask s)
 keeps-marked ask s = chosen ask.assistant s (assistant_marked (record ask { assistant = true }) s) s refl refl
 
 keeps-work_given : (ask : GetWork) (s : State) → Keeps s (work_given ask s).0
-  unfolding work_given
+unfolding work_given
 keeps-work_given ask s = by_disabled (is_disabled ask.worker here.workers) where
   here : State
   here = heard_asking ask s
+
   marked : State
   marked = assistant_marked ask here
+
   by_disabled : (b : Bool) → Keeps s (cond {A = State × Outcome} b (here, replied (nothing_to_do ask.worker here)) (given_to ask marked)).0
   by_disabled true = refl
   by_disabled false = keeps-given_or_again ask marked (given_again ask marked) ∙ keeps-marked ask here

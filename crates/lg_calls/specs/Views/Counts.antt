@@ -20,4 +20,3 @@ in_order = BatchRunning ∷ Disabled ∷ Done ∷ Failed ∷ Pending ∷ Running
 -- each status by its word, with the number of its tasks
 unfoldable pub status_counts : State → Tree
 status_counts state = record_of (map (λ status. (status_word status, number (count_of status state.tasks))) in_order)
-
