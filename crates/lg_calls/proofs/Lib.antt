@@ -7,6 +7,7 @@ pub mod MethodLemmas
 mod MomentLemmas
 pub mod OrderLemmas
 pub mod RangeLemmas
+pub mod RankLemmas
 pub mod ReadingLemmas
 pub mod StepLemmas
 pub mod TaskLemmas

@@ -2,6 +2,7 @@ pub mod Again
 pub mod Assigning
 pub mod Candidate
 pub mod Fits
+pub mod Laws
 pub mod Rank
 pub mod Ready
 pub mod Reserved

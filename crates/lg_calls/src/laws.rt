@@ -1,5 +1,5 @@
 //! What the definitions come to, for those who call and for those who follow a task through the steps.
-ghost use Rattle.std.specs.Prelude.{◌≡◌, ℕ, List, All, Contains, Some, None, map, Bool, IsTrue, Option, option_and_then, ◌≤◌, Err, codes};
+ghost use Rattle.std.specs.Prelude.{◌≡◌, ◌≢◌, false, ◌||◌, ℕ, List, All, Contains, Some, None, map, Bool, IsTrue, Option, option_and_then, ◌≤◌, Err, codes};
 ghost use Rattle.serde_json.specs.Data.{Members};
 ghost use Rattle.lg_json.specs.Fields.{text_in};
 ghost use Rattle.lg_calls.specs.declared.refusal.Refusal.{Refusal};
@@ -15,6 +15,8 @@ ghost use Rattle.lg_calls.specs.Methods.UpdateResource.{update_resource};
 ghost use Rattle.lg_calls.specs.Reading.{needed};
 ghost use Rattle.lg_calls.specs.Task.{Task};
 ghost use Rattle.lg_calls.specs.Tasks.{have_distinct_ids, have_rising_numbers, find_task, keep_tasks};
+ghost use Rattle.lg_calls.specs.Work.Laws.{StandByRank};
+ghost use Rattle.lg_calls.specs.Work.Rank.{outranks, by_rank};
 
 /// Each name of the table is of its own method, so that the names differ, and any other text is of none.
 pub fn names_are_of_one_method()
@@ -75,4 +77,16 @@ pub fn a_stop_does_nothing_else()
 pub fn the_resource_comes_first()
     ensures { (fields : Members) (refusal : Refusal) → needed text_in (codes "resource") fields ≡ Err refusal
         → update_resource fields ≡ Err refusal }
+{}
+
+/// Of two tasks with different numbers exactly one outranks the other, and who outranks a task outranks each that it outranks.
+pub fn rank_is_an_order()
+    ensures one_way { (one other : Task) → IsTrue (outranks one other) → outranks other one ≡ false }
+    ensures on { (one other third : Task) → IsTrue (outranks one other) → IsTrue (outranks other third) → IsTrue (outranks one third) }
+    ensures either { (one other : Task) → one.number ≢ other.number → IsTrue (outranks one other || outranks other one) }
+{}
+
+/// By rank stand the same tasks, where their numbers rise as in each state, and each before those that it outranks.
+pub fn who_walks_by_rank()
+    ensures { (tasks : List Task) → IsTrue (have_rising_numbers tasks) → StandByRank tasks (by_rank tasks) }
 {}
