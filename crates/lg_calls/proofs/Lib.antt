@@ -9,6 +9,7 @@ pub mod OrderLemmas
 pub mod RangeLemmas
 pub mod RankLemmas
 pub mod ReadingLemmas
+pub mod SearchLemmas
 pub mod StepLemmas
 pub mod TaskLemmas
 pub mod ValidLemmas

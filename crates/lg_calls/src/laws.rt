@@ -2,10 +2,12 @@
 ghost use Rattle.std.specs.Prelude.{◌≡◌, ◌≢◌, false, ◌||◌, ℕ, List, All, Contains, Some, None, map, Bool, IsTrue, Option, option_and_then, ◌≤◌, Err, codes};
 ghost use Rattle.serde_json.specs.Data.{Members};
 ghost use Rattle.lg_json.specs.Fields.{text_in};
+ghost use Rattle.lg_calls.specs.declared.methods.get_work.GetWork.{GetWork};
 ghost use Rattle.lg_calls.specs.declared.refusal.Refusal.{Refusal};
 ghost use Rattle.lg_calls.specs.declared.request.Request.{Request};
 ghost use Rattle.lg_calls.specs.declared.request.Request.TheVariants.{Stop};
 ghost use Rattle.lg_calls.specs.declared.state.State.{State};
+ghost use Rattle.lg_calls.specs.declared.status.Status.TheVariants.{Pending};
 ghost use Rattle.lg_calls.specs.Outcome.{full};
 ghost use Rattle.lg_calls.specs.Step.{begun, step};
 ghost use Rattle.lg_calls.specs.Laws.{KeepsIds, ChangesOne, AddsOne, found_where_kept, IdsStayDistinct, NumbersKeepRising};
@@ -15,8 +17,10 @@ ghost use Rattle.lg_calls.specs.Methods.UpdateResource.{update_resource};
 ghost use Rattle.lg_calls.specs.Reading.{needed};
 ghost use Rattle.lg_calls.specs.Task.{Task};
 ghost use Rattle.lg_calls.specs.Tasks.{have_distinct_ids, have_rising_numbers, find_task, keep_tasks};
-ghost use Rattle.lg_calls.specs.Work.Laws.{StandByRank};
+ghost use Rattle.lg_calls.specs.Work.Candidate.{first_candidate};
+ghost use Rattle.lg_calls.specs.Work.Laws.{StandByRank, HasNoCandidate, IsFirst};
 ghost use Rattle.lg_calls.specs.Work.Rank.{outranks, by_rank};
+ghost use Rattle.lg_calls.specs.Work.Walk.{has_no_resources, is_trivial, walk};
 
 /// Each name of the table is of its own method, so that the names differ, and any other text is of none.
 pub fn names_are_of_one_method()
@@ -89,4 +93,16 @@ pub fn rank_is_an_order()
 /// By rank stand the same tasks, where their numbers rise as in each state, and each before those that it outranks.
 pub fn who_walks_by_rank()
     ensures { (tasks : List Task) → IsTrue (have_rising_numbers tasks) → StandByRank tasks (by_rank tasks) }
+{}
+
+/// Whoever waits among those that a trivial worker's search goes over needs no resources.
+pub fn a_trivial_walk_needs_nothing()
+    ensures { (worker : List ℕ) (s : State) → IsTrue (is_trivial worker s)
+        → (task : Task) → Contains (walk worker s) task → task.status ≡ Pending → IsTrue (has_no_resources task) }
+{}
+
+/// The task that is chosen stands in the walk, can be given, and is the first that can; where none is chosen none can.
+pub fn the_first_is_given()
+    ensures given { (ask : GetWork) (s : State) (task : Task) → first_candidate ask s ≡ Some task → IsFirst ask s task }
+    ensures none { (ask : GetWork) (s : State) → first_candidate ask s ≡ None → HasNoCandidate ask s (walk ask.worker s) }
 {}
