@@ -13,3 +13,4 @@ pub mod SearchLemmas
 pub mod StepLemmas
 pub mod TaskLemmas
 pub mod ValidLemmas
+pub mod WorkExamples
