@@ -18,7 +18,7 @@ use lg_base::NoMemory;
 use lg_calls::{AddTask, Reply, Request, State, StepFault};
 use lg_json::Out;
 use limits::{set_limit, set_limits};
-use replies::answered;
+use replies::yes_or_no;
 use settling::{forgive_failures, mark_as_done};
 use std::alloc::Global;
 use workers::{add_worker, disable_worker, ping};
@@ -37,8 +37,8 @@ pub(crate) fn apply(state: &mut State, alloc: Global, request: &Request) -> Resu
         Request::DisableWorker(ask) => Ok(disable_worker(state, alloc, &ask.worker)?),
         Request::ForgiveFailures(ask) => Ok(forgive_failures(state, alloc, &ask.task_id)?),
         Request::HasTaskHistory => Ok(Reply(Out::Truth(false))),
-        Request::IsPauseEnabled => Ok(answered(alloc, "enabled", state.settings.pause_enabled)?),
-        Request::IsPaused => Ok(answered(alloc, "paused", state.paused)?),
+        Request::IsPauseEnabled => Ok(yes_or_no(alloc, "enabled", state.settings.pause_enabled)?),
+        Request::IsPaused => Ok(yes_or_no(alloc, "paused", state.paused)?),
         Request::MarkAsDone(ask) => Ok(mark_as_done(state, alloc, &ask.task_id)?),
         Request::Pause => Ok(set_paused(state, true)),
         Request::Ping(ask) => Ok(ping(state, alloc, &ask.worker)?),

@@ -3,7 +3,7 @@ ghost use Rattle.std.specs.Prelude.{◌≡◌, IfOk, codes};
 ghost use Rattle.std.specs.Option.{option_map_or};
 ghost use Rattle.lg_json.specs.Tree.{null, str, object, no_members, member, tree_of};
 ghost use Rattle.lg_calls.specs.Methods.Ping.{no_messages};
-ghost use Rattle.lg_calls.specs.Pausing.{answered};
+ghost use Rattle.lg_calls.specs.Pausing.{yes_or_no};
 ghost use Rattle.lg_calls.specs.Words.{status_word};
 
 use lg_base::{Name, NoMemory, TaskId, Text};
@@ -12,8 +12,8 @@ use lg_json::Out;
 use std::alloc::Global;
 
 /// The answer to a question that is answered by yes or no.
-pub(super) fn answered(alloc: Global, name: &str, answer: bool) -> Result<Reply, NoMemory>
-    ensures { IfOk result (λ reply. tree_of reply.0 ≡ answered name.now answer) }
+pub(super) fn yes_or_no(alloc: Global, name: &str, answer: bool) -> Result<Reply, NoMemory>
+    ensures { IfOk result (λ reply. tree_of reply.0 ≡ yes_or_no name.now answer) }
 {
     let mut members = Vec::new(alloc);
     members.push((named(alloc, name)?, Out::Truth(answer)))?;
