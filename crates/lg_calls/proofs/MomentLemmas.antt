@@ -2,7 +2,6 @@
 use Rattle.std.proofs.Common.{◌≡◌, ℕ, ℤ, pos, negsuc, Bool, true, false, cond, is_some, length, List, [], ◌∷◌, fold, Option, Some, None, refl, ◌∙◌}
 use Rattle.std.specs.Prelude.{if◌then◌else◌}
 use Rattle.std.specs.Option.{option_map_or}
-use Rattle.lg_base.specs.declared.moment.Moment.{Moment}
 use Rattle.lg_json.specs.Tree.{null}
 use Rattle.lg_calls.specs.declared.methods.add_task.AddTask.{AddTask}
 use Rattle.lg_calls.specs.declared.methods.get_work.GetWork.{GetWork}

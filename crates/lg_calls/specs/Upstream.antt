@@ -1,5 +1,5 @@
 -- What a task waits for at worst. This project's own, after Luigi's central scheduler.
-use Rattle.std.specs.Prelude.{ℕ, nat_le, Bool, true, false, not, ◌&&◌, if◌then◌else◌, Option, Some, None, List, [], ◌∷◌, codes, map, filter, filter_map, fold}
+use Rattle.std.specs.Prelude.{ℕ, nat_le, Bool, true, false, not, ◌&&◌, if◌then◌else◌, Option, Some, None, List, [], codes, filter, fold}
 use Rattle.std.specs.List.{list_any}
 use Rattle.lg_calls.specs.declared.status.Status.{Status}
 use Rattle.lg_calls.specs.declared.status.Status.TheVariants as S

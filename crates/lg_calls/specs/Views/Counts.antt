@@ -1,5 +1,5 @@
 -- How many tasks each status has. This project's own, after Luigi's central scheduler.
-use Rattle.std.specs.Prelude.{ℕ, ◌+◌, ◌<◌, List, [], ◌∷◌, count_by, map}
+use Rattle.std.specs.Prelude.{ℕ, List, [], ◌∷◌, count_by, map}
 use Rattle.lg_calls.specs.declared.state.State.{State}
 use Rattle.lg_calls.specs.declared.status.Status.{Status}
 use Rattle.lg_calls.specs.declared.status.Status.TheVariants.{Pending, Running, BatchRunning, Done, Failed, Disabled, Unknown}

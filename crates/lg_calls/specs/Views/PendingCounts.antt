@@ -1,5 +1,5 @@
 -- How much there is to do for a worker. This project's own, after Luigi's central scheduler.
-use Rattle.std.specs.Prelude.{ℕ, ◌-◌, nat_eq, Bool, false, not, ◌&&◌, ◌||◌, Option, List, [], ◌∷◌, ◌++◌, codes, length, count_by, filter, option_and_then}
+use Rattle.std.specs.Prelude.{ℕ, ◌-◌, nat_eq, Bool, false, not, ◌&&◌, ◌||◌, Option, List, [], ◌∷◌, ◌++◌, codes, is_some, if◌then◌else◌, length, count_by, filter, option_and_then}
 use Rattle.std.specs.List.{filter_map, slice_get}
 use Rattle.std.specs.Option.{option_map, option_map_or}
 use Rattle.lg_calls.specs.declared.state.State.{State}
@@ -62,15 +62,17 @@ count_fields last_scheduled pending unique running =
     (codes "n_unique_pending", number unique) ∷
     (codes "running_tasks", list (trees_of running)) ∷ []
 
--- those of a worker
-unfoldable pub counts_of : List ℕ → State → Fields
-counts_of worker s =
-    let left = left_for worker s.tasks in
-    count_fields (count_by (is_last_of worker) left) (length left) (count_by names_one left) (runs_shown worker s)
-
 -- nothing is left, and nothing runs
 abbrev pub no_counts : Fields
 no_counts = count_fields 0 0 0 []
+
+-- those of a worker that is known
+abbrev pub known_counts : List ℕ → List Task → State → Fields
+known_counts worker left s = count_fields (count_by (is_last_of worker) left) (length left) (count_by names_one left) (runs_shown worker s)
+
+-- those of a worker; there is nothing for one that isn't known
+unfoldable pub counts_of : List ℕ → State → Fields
+counts_of worker s = if is_some (find_worker worker s.workers) then known_counts worker (left_for worker s.tasks) s else no_counts
 
 -- whether a worker gets work; one that isn't known does
 abbrev pub state_field : List ℕ → State → Fields

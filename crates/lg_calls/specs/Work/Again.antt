@@ -1,6 +1,6 @@
 -- A task is given again to the worker that runs it, where the reply that gave it was lost. This project's own, after Luigi's
 -- central scheduler.
-use Rattle.std.specs.Prelude.{ℕ, Bool, not, ◌&&◌, Option, Some, None, List, find, option_and_then}
+use Rattle.std.specs.Prelude.{ℕ, Bool, not, ◌&&◌, Option, List, find, option_and_then}
 use Rattle.std.specs.List.{list_any}
 use Rattle.lg_calls.specs.declared.methods.get_work.GetWork.{GetWork}
 use Rattle.lg_calls.specs.declared.state.State.{State}

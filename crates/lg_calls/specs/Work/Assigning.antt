@@ -1,5 +1,5 @@
 -- A task is given to a worker. This project's own, after Luigi's central scheduler.
-use Rattle.std.specs.Prelude.{ℕ, Option, Some, None, List}
+use Rattle.std.specs.Prelude.{ℕ, Some, None, List}
 use Rattle.lg_base.specs.declared.moment.Moment.{Moment}
 use Rattle.lg_calls.specs.declared.state.State.{State}
 use Rattle.lg_calls.specs.declared.status.Status.TheVariants.{Running}

@@ -1,5 +1,5 @@
 -- Which task a worker gets. This project's own, after Luigi's central scheduler.
-use Rattle.std.specs.Prelude.{ℕ, Bool, ◌&&◌, ◌||◌, Option, List, find}
+use Rattle.std.specs.Prelude.{Bool, ◌&&◌, ◌||◌, Option, List, find}
 use Rattle.std.specs.List.{scan}
 use Rattle.std.specs.Option.{option_map}
 use Rattle.lg_calls.specs.declared.methods.get_work.GetWork.{GetWork}

@@ -1,6 +1,6 @@
 -- What the tasks at the front of a walk keep for themselves, though nobody was found to run them yet: amounts, and slots of
 -- workers. This project's own, after Luigi's central scheduler.
-use Rattle.std.specs.Prelude.{ℕ, ℤ, pos, ◌+◌, ◌-ℤ◌, nat_lt, int_lt, int_le, Bool, true, false, ◌&&◌, if◌then◌else◌, Option, Some, None, unwrap_or, List, [], ◌∷◌, ◌++◌, codes, map, filter, find, fold}
+use Rattle.std.specs.Prelude.{ℕ, ℤ, pos, ◌+◌, ◌-ℤ◌, nat_lt, int_lt, int_le, Bool, false, ◌&&◌, if◌then◌else◌, List, [], ◌∷◌, ◌++◌, codes, map, filter, find, fold}
 use Rattle.std.specs.List.{list_any}
 use Rattle.std.specs.Option.{option_map_or}
 use Rattle.lg_base.specs.Amounts.{amount_of}

@@ -1,6 +1,6 @@
 -- Which tasks a worker's search goes over, and in which order. This project's own, after Luigi's central scheduler.
 use Rattle.std.specs.FinMap.{entries}
-use Rattle.std.specs.Prelude.{ℕ, Bool, true, false, not, ◌&&◌, ◌||◌, if◌then◌else◌, Option, Some, None, List, [], ◌∷◌, codes, filter, find}
+use Rattle.std.specs.Prelude.{ℕ, Bool, true, false, not, ◌&&◌, ◌||◌, if◌then◌else◌, Option, List, [], codes, filter, find}
 use Rattle.std.specs.List.{list_all, list_any}
 use Rattle.std.specs.Option.{option_map, option_map_or}
 use Rattle.lg_calls.specs.declared.info.Info.{Info}
