@@ -1,0 +1,3 @@
+pub mod Naming
+pub mod Target
+pub mod Begin
