@@ -1,12 +1,11 @@
 -- Ids differ still where a task with a new one is put behind the others.
-use Rattle.std.proofs.Common.{◌≡◌, ℕ, Bool, true, false, not, List, [], ◌∷◌, Option, Some, None, cond, refl, sym, ap, ◌∙◌}
-use Rattle.std.specs.List.{list_all, position}
+use Rattle.std.proofs.Common.{◌≡◌, ℕ, Bool, true, false, not, List, [], ◌∷◌, Option, Some, None, cond, is_some, refl, sym, ap, ◌∙◌}
+use Rattle.std.specs.List.{list_all}
 use Rattle.std.proofs.lemmas.Option.{none-some}
 use Rattle.lg_calls.specs.Order.{is_same}
 use Rattle.lg_calls.specs.Task.{Task}
 use Rattle.lg_calls.specs.Tasks.{ids_of, have_distinct_ids, has_id, find_task, append_task}
 use Rattle.lg_plain.proofs.PathLemmas.{same-is, and-both, and-first, and-second}
-use Rattle.lg_plain.proofs.WalkLemmas.{place-position}
 
 first-not : (b : Bool) (m : Task) (rest : Option Task) → cond b (Some m) rest ≡ None → (b ≡ false) × (rest ≡ None)
 first-not true m rest e = absurd (none-some m (sym e))
@@ -32,6 +31,11 @@ distinct-append (m ∷ tasks) task distinct none =
     (all-append test tasks task (and-first _ _ distinct) (differs m.id task.id (is_same m.id task.id) refl apart.0))
     (distinct-append tasks task (and-second (list_all test (ids_of tasks)) _ distinct) apart.1)
 
--- no place has the id
-pub distinct_new : (tasks : List Task) (task : Task) → have_distinct_ids tasks ≡ true → None ≡ position (has_id task.id) tasks → have_distinct_ids (append_task tasks task) ≡ true
-distinct_new tasks task distinct none = distinct-append tasks task distinct (place-position task.id tasks None none)
+nobody : (found : Option Task) → false ≡ is_some found → found ≡ None
+nobody None none = refl
+nobody (Some task) none = cc
+
+-- no task has the id
+pub distinct_new : (tasks : List Task) (task : Task) → have_distinct_ids tasks ≡ true → false ≡ is_some (find_task task.id tasks)
+    → have_distinct_ids (append_task tasks task) ≡ true
+distinct_new tasks task distinct none = distinct-append tasks task distinct (nobody (find_task task.id tasks) none)

@@ -2,7 +2,7 @@
 mod changes;
 mod describing;
 mod ending;
-mod making;
+pub(crate) mod making;
 mod offering;
 pub(crate) mod places;
 mod reporting;

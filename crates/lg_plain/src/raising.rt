@@ -10,6 +10,9 @@ use lg_base::{NoMemory, TaskId};
 use lg_calls::TaskRec;
 use std::alloc::Global;
 
+#[cfg(test)]
+mod tests;
+
 /// Raises what the task of an id waits for to a priority: a dependency of lower priority gets it, and so on through
 /// dependencies of lower priority alone. Where no task has the id nothing happens. All memory is taken before the first
 /// change: a mark and a place for each task. A refusal leaves the tasks as they were.

@@ -1,8 +1,10 @@
 //! The rules of the change of status on tasks, each in a table, and what a caller sees of them.
-ghost use Rattle.std.specs.Prelude.{◌≡◌, IfOk};
+ghost use Rattle.std.specs.Prelude.{◌≡◌, IfOk, IsTrue};
 ghost use Rattle.lg_calls.specs.declared.status.Status.TheVariants.{Disabled};
+ghost use Rattle.lg_calls.specs.Tasks.{have_distinct_ids};
 ghost use Rattle.lg_calls.specs.Valid.{IsValidTask};
 
+use crate::adding::making::is_known;
 use crate::change::{enable, set};
 use lg_base::{Amounts, Moment, Name, NoMemory, Seq, TaskId, Text, WorkerId};
 use lg_calls::{Settings, State, Status, TaskRec};
@@ -11,10 +13,14 @@ use std::alloc::Global;
 use std::test::Fail;
 
 mod adding;
+mod batches;
 mod claims;
 mod enabling;
 mod plain;
+mod reporting;
+mod rising;
 mod rules;
+mod steps;
 mod windows;
 
 // Two failures within the hour are too many.
@@ -28,13 +34,13 @@ fn text(alloc: Global, word: &str) -> Result<Text, NoMemory> {
     Ok(Text::copied(alloc, word)?)
 }
 
-fn id(alloc: Global, word: &str) -> Result<TaskId, NoMemory> {
+pub(crate) fn id(alloc: Global, word: &str) -> Result<TaskId, NoMemory> {
     let word = text(alloc, word)?;
     Ok(TaskId::from(word))
 }
 
 // A task of this id and status that was made and last changed at 500 and never failed.
-fn task(alloc: Global, word: &str, status: Status) -> Result<TaskRec, NoMemory>
+pub(crate) fn task(alloc: Global, word: &str, status: Status) -> Result<TaskRec, NoMemory>
     ensures number { IfOk result (λ task. task.number ≡ 0) }
     ensures valid { status ≡ Disabled → IfOk result (IsValidTask (record { 0 = 1000 })) }
 {
@@ -89,6 +95,18 @@ fn fail_at(task: &mut TaskRec, moment: u64) -> Result<(), NoMemory> {
     task.failures.reserve()?;
     task.failures.add(Moment(moment), &TWICE_AN_HOUR);
     Ok(())
+}
+
+// Puts a task behind the others, if its id is a new one.
+#[tactic(auto, using(crate::proofs::DistinctLemmas::distinct_new))]
+pub(crate) fn put(tasks: &mut Vec<TaskRec>, task: TaskRec) -> Result<(), NoMemory>
+    requires { IsTrue (have_distinct_ids tasks.old.items) }
+    ensures { IsTrue (have_distinct_ids tasks.new.items) }
+{
+    if is_known(tasks.as_slice(), &task.id) {
+        return Ok(());
+    }
+    Ok(tasks.push(task)?)
 }
 
 // A state of these tasks at 1,000, with the default settings.
