@@ -3,7 +3,8 @@
 
 Declares 1,000, 2,000 and 4,000 tasks, one call each, over `luigid --stdio`, and prints the milliseconds of a call. Then it
 declares tasks that wait for each other, with 1,000, 10,000 and 100,000 dependencies in all, and prints what one report more
-costs that makes all of them urgent: the time of the run with it, less that of the run without it.
+costs that makes all of them urgent: the time of the run with it, less that of the run with one that makes none urgent. Last
+comes a chain of 10,000 tasks.
 
     rt ci luigid          # builds the daemon
     python3 bench/add_task.py crates/luigid/out/luigid
@@ -17,7 +18,8 @@ import tempfile
 import time
 
 COUNTS = [1_000, 2_000, 4_000]
-EDGES = [(100, 10), (400, 25), (1_000, 100)]
+EDGES = [(106, 10), (413, 25), (1_051, 100)]
+CHAIN = (10_000, 1)
 ROUNDS = 3
 
 
@@ -68,13 +70,14 @@ def main():
         for count in COUNTS:
             took = seconds(daemon, folder, [task(number) for number in range(count)])
             print(f"{count:>7} tasks: {took / count * 1000:.3f} ms a call")
-        for tasks, each in EDGES:
+        for tasks, each in [*EDGES, CHAIN]:
             calls = layered(tasks, each)
             without = seconds(daemon, folder, calls)
             urgent = task(tasks - 1, priority=1)
             calm = task(tasks - 1)
             rise = seconds(daemon, folder, calls + [urgent]) - seconds(daemon, folder, calls + [calm])
-            print(f"{tasks * each:>7} dependencies: {rise * 1000:.2f} ms the rise, of {without * 1000:.0f} ms for the declarations")
+            dependencies = sum(min(number, each) for number in range(tasks))
+            print(f"{dependencies:>7} dependencies: {rise * 1000:.2f} ms the rise, of {without * 1000:.0f} ms for the declarations")
     print(f"processors: {os.cpu_count()}")
 
 

@@ -3,6 +3,7 @@
 
 mod adding;
 mod change;
+mod index;
 pub mod laws;
 mod plain;
 mod raising;

@@ -1,10 +1,12 @@
 //! Raised priorities: a task that something urgent waits for becomes urgent. First the walk marks which tasks are raised,
 //! and then they are changed in place. The walk looks at each of them once, and doesn't recurse.
-ghost use Rattle.std.specs.Prelude.{◌≡◌, ◌<◌, ◌≤◌, ◌^◌, int_lt, IsTrue, OnOk, OnErr, [], ◌∷◌, length, position};
+ghost use Rattle.std.specs.Prelude.{◌≡◌, ◌<◌, ◌≤◌, ◌^◌, int_lt, IsTrue, OnOk, OnErr, [], ◌∷◌, length};
 ghost use Rattle.lg_calls.specs.Raising.{goes_to, goes_on, is_raised, raised};
-ghost use Rattle.lg_calls.specs.Tasks.{has_id, have_distinct_ids};
+ghost use Rattle.lg_calls.specs.Tasks.{have_distinct_ids};
+ghost use Rattle.lg_plain.specs.Index.{HasRoom, IsIndexOf};
 ghost use Rattle.lg_plain.specs.Walking.{IsFresh, Marks, IsMarkedBy, leads_at};
 
+use crate::index::Index;
 use crate::walk::Walk;
 use lg_base::{NoMemory, TaskId};
 use lg_calls::TaskRec;
@@ -15,7 +17,7 @@ mod tests;
 
 /// Raises what the task of an id waits for to a priority: a dependency of lower priority gets it, and so on through
 /// dependencies of lower priority alone. Where no task has the id nothing happens. All memory is taken before the first
-/// change: a mark and a place for each task. A refusal leaves the tasks as they were.
+/// change: a mark and two places for each task. A refusal leaves the tasks as they were.
 pub fn raise(
     tasks: &mut [TaskRec],
     alloc: Global,
@@ -27,17 +29,26 @@ pub fn raise(
     ensures err { OnErr result (tasks.new ≡ tasks.old) }
 {
     let walk = Walk::new(alloc, tasks.len())?;
-    raise_along(tasks, walk, id, priority);
+    let index = Index::new(alloc, tasks.len())?;
+    raise_along(tasks, walk, index, id, priority);
     Ok(())
 }
 
 /// The same with memory that was taken before, for a step that has changed something already when it raises.
-pub(crate) fn raise_along(tasks: &mut [TaskRec], mut walk: Walk, id: &TaskId, priority: i64)
+pub(crate) fn raise_along(
+    tasks: &mut [TaskRec],
+    mut walk: Walk,
+    mut index: Index,
+    id: &TaskId,
+    priority: i64,
+)
     requires distinct { IsTrue (have_distinct_ids tasks.old) }
     requires fresh { IsFresh (length tasks.old) walk }
+    requires room { HasRoom (length tasks.old) index }
     ensures { tasks.new ≡ raised priority id.now tasks.old }
 {
-    mark_raised(tasks, &mut walk, id, priority);
+    index.fill(tasks);
+    mark_raised(tasks, &index, &mut walk, id, priority);
     for (place, task) in tasks.iter_mut().enumerate() {
         if walk.marks[place] {
             task.priority = priority;
@@ -46,19 +57,21 @@ pub(crate) fn raise_along(tasks: &mut [TaskRec], mut walk: Walk, id: &TaskId, pr
 }
 
 // Marks each task that is raised.
-fn mark_raised(tasks: &[TaskRec], walk: &mut Walk, id: &TaskId, priority: i64)
+fn mark_raised(tasks: &[TaskRec], index: &Index, walk: &mut Walk, id: &TaskId, priority: i64)
+    requires index { IsIndexOf tasks.now index.now }
     requires distinct { IsTrue (have_distinct_ids tasks.now) }
     requires fresh { IsFresh (length tasks.now) walk.old }
     ensures marked { IsMarkedBy tasks.now (is_raised priority id.now tasks.now) walk.new }
     ensures count { length walk.new.marks.items ≡ length tasks.now }
 {
-    if let Some(root) = place_of(tasks, id) {
-        walk_from(tasks, walk, root, priority);
+    if let Some(root) = index.place_of(tasks, id) {
+        walk_from(tasks, index, walk, root, priority);
     }
 }
 
 // Marks each task that the priority goes on to from that of a place.
-fn walk_from(tasks: &[TaskRec], walk: &mut Walk, root: usize, priority: i64)
+fn walk_from(tasks: &[TaskRec], index: &Index, walk: &mut Walk, root: usize, priority: i64)
+    requires index { IsIndexOf tasks.now index.now }
     requires distinct { IsTrue (have_distinct_ids tasks.now) }
     requires fresh { IsFresh (length tasks.now) walk.old }
     requires known { root < length tasks.now }
@@ -68,40 +81,35 @@ fn walk_from(tasks: &[TaskRec], walk: &mut Walk, root: usize, priority: i64)
     walk.begin(root);
     while let Some(place) = walk.take() {
         let task = &tasks[place];
-        spread(tasks, walk, task, priority);
+        spread(tasks, index, walk, task, priority);
     }
 }
 
 // Marks each task that the priority goes on to from a task at once.
-fn spread(tasks: &[TaskRec], walk: &mut Walk, task: &TaskRec, priority: i64)
+fn spread(tasks: &[TaskRec], index: &Index, walk: &mut Walk, task: &TaskRec, priority: i64)
+    requires index { IsIndexOf tasks.now index.now }
     requires distinct { IsTrue (have_distinct_ids tasks.now) }
     requires count { length walk.old.marks.items ≡ length tasks.now }
     ensures { Marks tasks.now (goes_on priority task.now) walk.old walk.new }
 {
     for dep in task.deps.as_slice() {
-        reach(tasks, walk, dep, priority);
+        reach(tasks, index, walk, dep, priority);
     }
 }
 
 // Marks the task of an id, where its priority is lower.
-fn reach(tasks: &[TaskRec], walk: &mut Walk, id: &TaskId, priority: i64)
+fn reach(tasks: &[TaskRec], index: &Index, walk: &mut Walk, id: &TaskId, priority: i64)
+    requires index { IsIndexOf tasks.now index.now }
     requires distinct { IsTrue (have_distinct_ids tasks.now) }
     requires count { length walk.old.marks.items ≡ length tasks.now }
     ensures { Marks tasks.now (goes_to priority (id.now ∷ [])) walk.old walk.new }
 {
-    if let Some(place) = place_of(tasks, id) {
+    if let Some(place) = index.place_of(tasks, id) {
         let task = &tasks[place];
         if is_below(task, priority) && !walk.marks[place] {
             walk.mark(place);
         }
     }
-}
-
-// The place of the task of an id, if there is one.
-fn place_of(tasks: &[TaskRec], id: &TaskId) -> Option<usize>
-    ensures { result ≡ position (has_id id.now) tasks.now }
-{
-    tasks.iter().position(|task| task.has_id(id))
 }
 
 // Whether the priority of a task is lower.
