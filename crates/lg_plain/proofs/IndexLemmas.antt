@@ -1,18 +1,18 @@
 -- What is found by an index.
-use Rattle.std.proofs.Common.{Ordering, Less, Equal, Greater, ◌≡◌, ℕ, ◌+◌, ◌<◌, ◌≤◌, true, List, [], ◌∷◌, ◌++◌, length, get_or, Option, Some, None, refl, sym, ap, ◌∙◌, subst, inl, inr, arith}
+use Rattle.std.proofs.Common.{Ordering, Less, Equal, Greater, ◌≡◌, ℕ, ◌+◌, ◌<◌, true, List, [], ◌∷◌, ◌++◌, length, get_or, Option, Some, None, refl, sym, ap, ◌∙◌, subst, inl, inr, arith}
 use Rattle.std.specs.Cmp.{tied_itself}
 use Rattle.std.specs.Cmp.Lexicographic.{slice_cmp, nat_list_cmp_total}
-use Rattle.std.specs.List.{All, Contains, HoldsAt, position, slice_get}
+use Rattle.std.specs.List.{Contains, position, slice_get}
 use Rattle.std.specs.List.Sorted.{IsNonDecreasingBy, IsPartitionPoint, IsPermutation}
 use Rattle.std.specs.Ordering.{nat_cmp, is_eq, ordering_index}
 use Rattle.std.proofs.lemmas.Bool.{cases_lt}
 use Rattle.std.proofs.lemmas.List.Elements.{All-nil, All-push, All-weaker, Contains-append_left, Contains-push}
 use Rattle.std.proofs.lemmas.List.Sorted.{All-permutation, Contains-permutation, searchable_from_sorted}
-use Rattle.std.proofs.lemmas.Option.{none-some, slice_get_cases}
+use Rattle.std.proofs.lemmas.Option.{slice_get_cases}
 use Rattle.lg_plain.specs.declared.index.Index.{Index}
 use Rattle.lg_calls.specs.Order.{is_same}
 use Rattle.lg_calls.specs.Task.{Task}
-use Rattle.lg_calls.specs.Tasks.{has_id, have_distinct_ids, find_task}
+use Rattle.lg_calls.specs.Tasks.{has_id, have_distinct_ids}
 use Rattle.lg_plain.specs.Index.{id_of, id_at, HasEach, IsIndexOf}
 use Rattle.lg_plain.specs.Walking.{IsPlaceOf}
 use Rattle.lg_plain.proofs.ListLemmas.{find_task-has}
@@ -57,7 +57,7 @@ missing id tasks index i (Some place) is found point =
     let there = at-place tasks place found.1 in
     let has = find_task-has id tasks there.0 (found.0 ∙ there.1) in
     let equal : slice_cmp nat_cmp (id_at tasks place) id ≡ Equal =
-        ap (λ o. slice_cmp nat_cmp (id_of o) id) there.1 ∙ ap (λ text. slice_cmp nat_cmp text id) (sym (same-is id there.0.id has)) ∙ tied_itself nat_list_cmp_total id
+    ap (λ o. slice_cmp nat_cmp (id_of o) id) there.1 ∙ ap (λ text. slice_cmp nat_cmp text id) (sym (same-is id there.0.id has)) ∙ tied_itself nat_list_cmp_total id
     in
     let where_it_is = is.has.each place found.1 in
     elim (cases_lt where_it_is.0 i) [

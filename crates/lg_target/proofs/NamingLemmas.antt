@@ -54,9 +54,11 @@ padded_ten numeral =
     ap (λ n. replicate n 48 ++ (numeral ++ [])) (omega arith) ∙ ap (λ ns. replicate (10 - length numeral) 48 ++ ns) (append-nil numeral)
 
 -- what is written of a path and a number
-pub named : (path : List ℕ) (number : ℕ) → path ++ (codes "-luigi-tmp-" ++ padded_integral (format_spec 32 0 4 10 (2 ^ 64 - 1)) false [] (decimal (number % 10 ^ 10))) ≡ aside_name path number
-named path number =
-    ap (λ digits. path ++ (codes "-luigi-tmp-" ++ digits)) (padded_ten (decimal (number % 10 ^ 10)))
+pub named : (name bytes path : List ℕ) (number : ℕ) → name ≡ bytes
+    → bytes ≡ path ++ (codes "-luigi-tmp-" ++ padded_integral (format_spec 32 0 4 10 (2 ^ 64 - 1)) false [] (decimal (number % 10 ^ 10)))
+    → name ≡ aside_name path number
+named name bytes path number same written =
+    same ∙ written ∙ ap (λ digits. path ++ (codes "-luigi-tmp-" ++ digits)) (padded_ten (decimal (number % 10 ^ 10)))
     ∙ sym (append_assoc path (codes "-luigi-tmp-") (ten_digits number))
 
 -- the name of a file aside has the mark
@@ -66,8 +68,8 @@ named_temporary file named = (file.path, ten_digits named.number, named.is)
 -- ten digits they are
 pub ten : (number : ℕ) → length (ten_digits number) ≡ 10
 ten number =
-    let numeral = decimal (number % 10 ^ 10) in
-    let zeros = replicate (10 - length numeral) 48 in
+    let numeral : List ℕ = decimal (number % 10 ^ 10) in
+    let zeros : List ℕ = replicate (10 - length numeral) 48 in
     let small : number % 10 ^ 10 < 10 ^ 10 = omega arith in
     let within : length numeral ≤ 10 = length-decimal-le 10 (number % 10 ^ 10) (omega arith) small (omega arith) in
     let before : length zeros ≡ 10 - length numeral = length-replicate (10 - length numeral) 48 in
