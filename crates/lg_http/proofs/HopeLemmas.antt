@@ -6,12 +6,12 @@ use Rattle.std.proofs.lemmas.Bool.{ltb-true, ne_eqb, and_parts}
 use Rattle.std.proofs.lemmas.List.Elements.{All-head, All-tail, All-cons, All-nil, All-weaker}
 use Rattle.httparse.specs.Grammar.{is_uri_byte, IsToken, AllPass, LineEnd, crlf, lf, print_end, print_blank, Field, print_field, IsField, RequestHead, print_request, ReadsRequest, HasNoRequest, NeverHasRequest, MayBecomeRequest}
 use Rattle.httparse.specs.Pieces.{Then, Completes, Section, RequestStart}
-use Rattle.httparse.specs.Spans.{RequestExceeds, RequestOverflows}
+use Rattle.httparse.specs.Spans.{RequestExceeds}
 use Rattle.httparse.proofs.PieceLemmas.{Blank_deterministic, Method_deterministic, Stops_token}
 use Rattle.httparse.proofs.GrammarLemmas.{request_head, request_from_pieces}
 use Rattle.httparse.proofs.OpenLemmas.{Completes_first, Completes_next, some_target, some_version, some_newline, some_section}
 use Rattle.lg_http.specs.Heads.{max_head, is_target_byte, IsInTarget}
-use Rattle.lg_http.specs.Messages.{HasHopelessFront, HasUnservedHead}
+use Rattle.lg_http.specs.Messages.{HasHopelessFront}
 
 -- of two cuts of one list one is no later than the other
 pub append_cut : (a b x t : List ℕ) → a ++ b ≡ x ++ t
@@ -128,12 +128,11 @@ no_more_fields bytes short (front, rest, split, head, reads, more) =
       length-append front (print_end lf),
     )
 
--- a whole head with more fields than are served
-pub long_refused : (bytes : List ℕ) (head : RequestHead) (rest : List ℕ) → length bytes ≤ max_head
-    → RequestOverflows 64 bytes → ReadsRequest bytes head rest → HasUnservedHead bytes
-long_refused bytes head rest short long reads = (
-  head,
-  rest,
-  record { reads = reads; short = omega (arith, short, ap length reads.1, length-append (print_request head) rest) },
-  λ accepted. absurd (omega (arith, accepted.few_fields, long [] head rest (subst (λ (b : List ℕ). ReadsRequest b head rest) (sym (append-nil bytes)) reads))),
-)
+-- bytes that are enough to look at for a head have each hopeless front that more bytes have
+pub hopeless_within : (bytes more : List ℕ) → max_head ≤ length bytes → HasHopelessFront (bytes ++ more) → HasHopelessFront bytes
+hopeless_within bytes more full (front, rest, split, fits, hopeless) = step (append_cut bytes more front rest split)
+  where
+    step : ((q : List ℕ) × (front ≡ bytes ++ q)) ⊎ ((u : List ℕ) × (bytes ≡ front ++ u) × (rest ≡ u ++ more)) → HasHopelessFront bytes
+    step (inl ([], cut)) = (front, [], sym (append-nil front ∙ cut ∙ append-nil bytes), fits, hopeless)
+    step (inl (x ∷ q, cut)) = absurd (omega (arith, fits, full, ap length cut, length-append bytes (x ∷ q)))
+    step (inr (u, cut, left)) = (front, u, cut, fits, hopeless)

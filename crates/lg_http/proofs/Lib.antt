@@ -1,7 +1,9 @@
 pub mod AnswerLemmas
+pub mod CallerLemmas
 pub mod FieldLemmas
 pub mod HopeLemmas
 pub mod IncomingLemmas
+pub mod JudgeLemmas
 pub mod PieceLemmas
 pub mod Readings
 pub mod TargetLemmas

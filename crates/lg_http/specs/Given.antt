@@ -9,3 +9,10 @@ IsGiven (Bytes count) got = (length got ≡ count) × (0 < count)
 IsGiven End got = got ≡ []
 IsGiven Quiet got = got ≡ []
 IsGiven Failed got = got ≡ []
+
+-- P, where a read gave no bytes
+abbrev pub OnNothing : ReadStep → Type 0 → Type 0
+OnNothing (Bytes count) P = Unit {0}
+OnNothing End P = P
+OnNothing Quiet P = P
+OnNothing Failed P = P

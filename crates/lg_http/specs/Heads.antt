@@ -1,22 +1,29 @@
 -- Which heads are served, and which bytes can no longer become one. This project's own, over RFC 9112.
-use Rattle.std.specs.Prelude.{◌≡◌, ◌≢◌, ℕ, ◌≤◌, Bool, not, ◌||◌, ◌==◌, List, ◌∷◌, ◌++◌, length, IsFalse, IsSomeAnd, codes}
+use Rattle.std.specs.Prelude.{◌≡◌, ℕ, Bool, not, ◌||◌, ◌==◌, List, ◌∷◌, ◌++◌, length, nat_lt, codes, Option, Some, None, if◌then◌else◌}
 use Rattle.httparse.specs.Ascii.{space, carriage_return, line_feed}
 use Rattle.httparse.specs.Grammar.{AllPass, IsToken, LineEnd, print_blank, RequestHead, NeverHasRequest}
-use Rattle.lg_http.specs.Fields.{content_length, closes, is_encoded}
+use Rattle.http1.specs.Fields.{Header}
+use Rattle.lg_http.specs.Fields.{headers_of, is_framed_in, length_in}
 
 -- how many bytes of a stream are looked at for a head
 abbrev pub max_head : ℕ
 max_head = 16384
 
--- A head that is served: HTTP/1.1, at most 64 fields, a verb other than GET, a body of at most 1,048,576 bytes whose
--- length one field tells, and a connection that stays.
-pub record IsAccepted (head : RequestHead) : Type 0 where
-  pub few_fields : length head.fields ≤ 64
-  pub version : head.minor ≡ 1
-  pub verb : head.method ≢ codes "GET"
-  pub plain : IsFalse (is_encoded head)
-  pub stays : IsFalse (closes head)
-  pub sized : IsSomeAnd (content_length head) (λ n. n ≤ 1048576)
+-- The status with which a whole head is refused, the first that applies: its fields don't tell plainly how long the body
+-- is, they are more than 64, or the body is longer than 1,048,576 bytes.
+abbrev pub refusal_in : List Header → Option ℕ
+refusal_in headers =
+    if not (is_framed_in headers) then Some 400
+    else (if nat_lt 64 (length headers) then Some 431
+    else (if nat_lt 1048576 (length_in headers) then Some 413
+    else None))
+
+unfoldable pub refusal_of : RequestHead → Option ℕ
+refusal_of head = refusal_in (headers_of head)
+
+-- a head that is served
+abbrev pub IsAccepted : RequestHead → Type 0
+IsAccepted head = refusal_of head ≡ None
 
 -- neither a blank nor an end of line
 abbrev pub is_target_byte : ℕ → Bool

@@ -1,10 +1,11 @@
 -- What a reader keeps of a message that is not whole yet. This project's own.
-use Rattle.std.specs.Prelude.{◌≡◌, ℕ, ◌+◌, ◌-◌, ◌<◌, ◌≤◌, List, ◌++◌, length, Option, Some, None}
+use Rattle.std.specs.Prelude.{◌≡◌, ℕ, ◌+◌, ◌-◌, ◌<◌, ◌≤◌, true, List, [], ◌++◌, length, Option, Some, None, option_map}
 use Rattle.httparse.specs.Grammar.{RequestHead, IsRequestHead, print_request}
-use Rattle.lg_http.specs.Fields.{content_length}
+use Rattle.lg_http.specs.Fields.{is_sized, body_length, closes}
 use Rattle.lg_http.specs.Heads.{max_head, IsAccepted}
 use Rattle.lg_http.specs.Arrival.{Arrival}
-use Rattle.lg_http.specs.Answers.{Shows}
+use Rattle.lg_io.specs.Source.{Received}
+use Rattle.lg_http.specs.Answers.{max_quiets, after_bytes, Counts, Hears, Reads, Shows}
 use Rattle.lg_http.specs.Messages.{WholeMessage, message_bytes, IsMessage, IsBad, IsUndecided, WantsMemory}
 use Rattle.lg_http.specs.declared.incoming.Incoming.{Incoming}
 use Rattle.lg_http.specs.declared.message.Next.{Next}
@@ -16,7 +17,9 @@ pub record IsArriving (window : List ℕ) (arrival : Arrival) (head : RequestHea
   pub accepted : IsAccepted head
   pub whole : window ≡ print_request head
   pub short : length window ≤ max_head
-  pub sized : content_length head ≡ Some arrival.size
+  pub size_is : arrival.size ≡ body_length head
+  pub sized_is : arrival.sized ≡ is_sized head
+  pub last_is : arrival.last ≡ closes head
   pub within : length arrival.read ≤ arrival.size
   pub verb_is : arrival.verb ≡ head.method
   pub target_is : arrival.target ≡ head.target
@@ -57,6 +60,12 @@ HasRoom incoming = CanRead incoming.window incoming.arriving
 abbrev pub room_of : Incoming → ℕ
 room_of incoming = kept_room incoming.window incoming.arriving
 
+-- it is sound, it waits only where what it keeps is undecided, and its source isn't idle yet
+pub record IsReady (incoming : Incoming) : Type 0 where
+  pub sound : IsSound incoming
+  pub waiting : incoming.is_waiting ≡ true → IsUndecided (bytes_of incoming) × HasRoom incoming
+  pub quiets : incoming.quiets < max_quiets
+
 -- What is found in the bytes at hand: an answer, or that more bytes are wanted.
 abbrev pub Finds : Incoming → Option Next → Incoming → Type 0
 Finds old None new =
@@ -64,8 +73,17 @@ Finds old None new =
 Finds old (Some (Answer.Message message)) new =
     (whole : WholeMessage) × IsMessage whole × Shows message whole × (bytes_of old ≡ message_bytes whole ++ bytes_of new)
 Finds old (Some Answer.End) new = ⊥
-Finds old (Some (Answer.Bad status)) new = (status ≡ 400) × (bytes_of new ≡ bytes_of old) × IsBad (bytes_of old)
+Finds old (Some (Answer.Bad status)) new = (bytes_of new ≡ bytes_of old) × IsBad status (bytes_of old)
 Finds old (Some Answer.Torn) new = ⊥
 Finds old (Some Answer.Quiet) new = ⊥
+Finds old (Some Answer.Idle) new = ⊥
 Finds old (Some Answer.Failed) new = ⊥
 Finds old (Some Answer.NoMemory) new = (bytes_of new ≡ bytes_of old) × WantsMemory (bytes_of old)
+
+-- What reading more comes to: an answer where nothing came, or more bytes.
+abbrev pub ReadsOn : Incoming → Option Next → Incoming → Option Received → Option Received → Type 0
+ReadsOn old None new told now =
+    (got : List ℕ) × (0 < length got) × (now ≡ option_map (after_bytes got) told) × (bytes_of new ≡ bytes_of old ++ got)
+    × (room_of new + length got ≡ room_of old) × (new.quiets ≡ 0)
+ReadsOn old (Some answer) new told now =
+    Hears told answer [] now × Reads (bytes_of old) answer (bytes_of new) × Counts old.quiets answer new.quiets

@@ -4,6 +4,7 @@ pub mod Messages
 pub mod ReaderView
 pub mod Answers
 pub mod Decisions
+pub mod Framing
 pub mod Given
 pub mod Arrival
 pub mod Incoming

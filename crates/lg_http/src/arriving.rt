@@ -1,5 +1,5 @@
 //! A message whose head is whole and whose body arrives.
-ghost use Rattle.std.specs.Prelude.{◌≡◌, ℕ, ◌<◌, ◌≤◌, List, ◌++◌, length, take, IfOk, IsTrue, IsFalse, ◌↔◌, option_map, IsUtf8};
+ghost use Rattle.std.specs.Prelude.{◌≡◌, ℕ, ◌<◌, ◌≤◌, List, ◌++◌, length, take, IfOk, IsTrue, ◌↔◌, option_map, IsUtf8};
 ghost use Rattle.httparse.specs.Grammar.{RequestHead};
 ghost use Rattle.lg_io.specs.declared.source.ReadStep.TheVariants.{Failed};
 ghost use Rattle.lg_io.specs.Cause.{HasCause};
@@ -23,6 +23,8 @@ pub(crate) struct Arriving {
     target: Text,
     body: Vec<u8>,
     filled: usize,
+    sized: bool,
+    last: bool,
 }
 
 impl Model for Arriving {
@@ -31,7 +33,14 @@ impl Model for Arriving {
 
     ghost Value = { Arrival };
 
-    ghost view = { λ a. record { verb = a.verb; target = a.target; size = length a.body.items; read = take a.filled a.body.items } };
+    ghost view = { λ a. record {
+      verb = a.verb;
+      target = a.target;
+      size = length a.body.items;
+      read = take a.filled a.body.items;
+      sized = a.sized;
+      last = a.last;
+    } };
 
     ghost invariant = { λ a. a.filled ≤ length a.body.items };
 }
@@ -51,6 +60,8 @@ impl Arriving {
             target,
             body,
             filled,
+            sized: head.sized,
+            last: head.last,
         })
     }
 
@@ -82,15 +93,15 @@ impl Arriving {
         ensures verb { result.verb ≡ self.verb }
         ensures target { result.target ≡ self.target }
         ensures body { result.body.items ≡ self.read }
-        ensures sized { IsTrue result.sized }
-        ensures stays { IsFalse result.last }
+        ensures sized { result.sized ≡ self.sized }
+        ensures last { result.last ≡ self.last }
     {
         Message {
             verb: self.verb,
             target: self.target,
             body: self.body,
-            sized: true,
-            last: false,
+            sized: self.sized,
+            last: self.last,
         }
     }
 }

@@ -2,6 +2,7 @@
 #![tactic(auto)]
 
 mod arriving;
+mod framing;
 mod heads;
 mod incoming;
 mod laws;
@@ -12,7 +13,10 @@ mod response;
 mod target;
 mod window;
 
-pub use laws::{bad_stays, bad_wants_no_memory, first_messages, never_both, one_reading};
+pub use laws::{
+    bad_stays, bad_wants_no_memory, first_messages, never_both, one_reading, one_status,
+    three_statuses,
+};
 pub use message::{Message, Next};
 pub use reader::Reader;
 pub use reader_end::ReaderEnd;

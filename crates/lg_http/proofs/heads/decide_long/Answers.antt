@@ -1,11 +1,6 @@
-use Rattle.std.proofs.Common.{inl, Err, ap}
-use Rattle.lg_http.proofs.HopeLemmas.{unfinished_hopeful, no_more_fields, long_refused}
+use Rattle.std.proofs.Common.{Err, ap}
+use Rattle.lg_http.proofs.HopeLemmas.{unfinished_hopeful, no_more_fields}
 use Rattle.lg_http.proofs.heads.decide_long.Goals as goal
-
-pub returns-in-Ok-Complete : goal.returns-in-Ok-Complete
-returns-in-Ok-Complete c =
-    let told = rw c.in-Ok-Complete.field-0-is at c.in-Ok-Complete.ensures in
-    inl (long_refused _ told.complete.0 _ c.requires.short c.requires.long told.complete.1.reads)
 
 pub cut_short-requires-clause-hopeful : goal.cut_short-requires-clause-hopeful
 cut_short-requires-clause-hopeful c =
@@ -13,4 +8,4 @@ cut_short-requires-clause-hopeful c =
 
 pub broken-requires-clause-never : goal.broken-requires-clause-never
 broken-requires-clause-never c =
-    c.in-Err.ensures.invalid (λ many. no_more_fields c.args.bytes.now c.requires.short (c.in-Err.ensures.too_many (ap Err many)))
+    c.in-Err.ensures.invalid (λ many. no_more_fields c.args.bytes.now c.requires (c.in-Err.ensures.too_many (ap Err many)))

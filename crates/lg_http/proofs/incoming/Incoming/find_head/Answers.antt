@@ -11,7 +11,7 @@ returns-then-is_whole-clause-found c =
     let at = subst (λ (b : List ℕ). IsHeadAt b found c.in-Accept.ensures.0) c.pending.ensures.same c.in-Accept.ensures.1 in
     let begins = subst (λ (b : List ℕ). Begins b found c.in-Ok.arriving) c.pending-2.ensures.same c.in-Ok.ensures.begins in
     rw c.requires (message_found c.args.self.now.window _ found _ c.in-Ok.arriving _ at begins (c.is_whole.ensures.0 c.if-is_whole.true)
-    (record { verb_is = told.verb; target_is = told.target; body_is = told.body; sized_is = told.sized; stays_is = told.stays })
+    (record { verb_is = told.verb; target_is = told.target; body_is = told.body; sized_is = told.sized; last_is = told.last })
     c.skip.ensures)
 
 pub returns-clause-found : goal.returns-clause-found
