@@ -23,16 +23,18 @@ use Rattle.luigid.specs.Transcript.{stepped, not_called, no_memory}
 use Rattle.lg_desk.proofs.CallerLemmas.{answer_to, made-push}
 
 -- a message makes the call of its parts
-pub shown_call : (message : Message) (arrived : WholeMessage) → Shows message arrived → call_of message.verb message.target message.body.items ≡ asked_by arrived
-shown_call message arrived shows = rw (shows.verb, shows.target, shows.body) refl
+pub shown_call : (message : Message) (arrived : WholeMessage) → Shows message arrived
+    → call_of message.verb message.sized message.target message.body.items ≡ asked_by arrived
+shown_call message arrived shows = rw (shows.verb, shows.sized, shows.target, shows.body) refl
 
 -- and has the size of its parts
-pub shown_size : (message : Message) (arrived : WholeMessage) → Shows message arrived → size_of message.target message.body.items ≡ size_of arrived.head.target arrived.body
-shown_size message arrived shows = rw (shows.target, shows.body) refl
+pub shown_size : (message : Message) (arrived : WholeMessage) → Shows message arrived
+    → size_of message.verb message.target message.body.items ≡ size_of arrived.head.method arrived.head.target arrived.body
+shown_size message arrived shows = rw (shows.verb, shows.target, shows.body) refl
 
 -- what was made of the parts is the entry of the message
 pub same_entry : (lane connection nth pass size : ℕ) (message : WholeMessage) (request : Request) (now : Moment)
-    → pass ≡ lane → size ≡ size_of message.head.target message.body
+    → pass ≡ lane → size ≡ size_of message.head.method message.head.target message.body
     → ◌≡◌ {A = Entry} (record { pass = pass; who = record { lane = lane; connection = connection; nth = nth; size = size }; now = now; request = request }) (entry_of lane connection nth message request now.0)
 same_entry lane connection nth pass size message request now pass_is size_is = rw (pass_is, size_is) refl
 

@@ -1,11 +1,11 @@
 -- What a source gave over several calls of a reader.
-use Rattle.std.proofs.Common.{◌≡◌, ℕ, Bool, true, false, ◌||◌, List, [], ◌∷◌, ◌++◌, refl, sym, ◌∙◌, ap, append_assoc, Option, Some, None}
+use Rattle.std.proofs.Common.{◌≡◌, ℕ, ◌+◌, Bool, true, false, ◌||◌, List, [], ◌∷◌, ◌++◌, refl, sym, ◌∙◌, ap, append_assoc, Option, Some, None}
 use Rattle.std.proofs.lemmas.List.{append-nil}
 use Rattle.lg_http.specs.declared.message.Next.{Next}
 use Rattle.lg_http.specs.declared.message.Next.TheVariants as Answer
-use Rattle.lg_http.specs.Answers.{after_bytes, after_answer, Hears}
+use Rattle.lg_http.specs.Answers.{after_bytes, after_answer, quiets_after, Counts, Hears}
 use Rattle.lg_io.specs.Source.{Received}
-use Rattle.luigid.specs.Hearing.{ends_input, Heard, HearsOn}
+use Rattle.luigid.specs.Hearing.{ends_input, Heard, HearsOn, IsQuietFor, quiets_behind}
 
 or_false : (b : Bool) → b || false ≡ b
 or_false true = refl
@@ -35,6 +35,7 @@ heard_once Answer.End got r = record { bytes = bytes-after got r; ended = sym (o
 heard_once (Answer.Bad status) got r = record { bytes = bytes-after got r; ended = ended-after got r ∙ sym (or_false r.ended) }
 heard_once Answer.Torn got r = record { bytes = bytes-after got r; ended = sym (or_true r.ended) }
 heard_once Answer.Quiet got r = record { bytes = bytes-after got r; ended = ended-after got r ∙ sym (or_false r.ended) }
+heard_once Answer.Idle got r = record { bytes = bytes-after got r; ended = ended-after got r ∙ sym (or_false r.ended) }
 heard_once Answer.Failed got r = record { bytes = bytes-after got r; ended = ended-after got r ∙ sym (or_false r.ended) }
 heard_once Answer.NoMemory got r = record { bytes = bytes-after got r; ended = ended-after got r ∙ sym (or_false r.ended) }
 
@@ -52,6 +53,28 @@ hears_more answer x y (Some old) (Some r) None first second = absurd (cc)
 hears_more answer x y (Some old) (Some r) (Some new) first second =
     let same : new ≡ after_answer answer (after_bytes y r) = cc in
     heard_more answer x y old r new first (rw same (heard_once answer y r))
+
+quiets-after : (got : List ℕ) (r : Received) (quiets : ℕ) → r.quiets ≡ quiets → (after_bytes got r).quiets ≡ quiets_after got quiets
+quiets-after [] r quiets is = is
+quiets-after (b ∷ got) r quiets is = refl
+
+counts_answer : (answer : Next) (r : Received) (quiets new : ℕ) → r.quiets ≡ quiets → Counts quiets answer new
+    → (after_answer answer r).quiets ≡ quiets_behind answer new
+counts_answer (Answer.Message message) r quiets new is counts = is ∙ sym counts
+counts_answer Answer.End r quiets new is counts = is ∙ sym counts
+counts_answer (Answer.Bad status) r quiets new is counts = is ∙ sym counts
+counts_answer Answer.Torn r quiets new is counts = is ∙ sym counts
+counts_answer Answer.Quiet r quiets new is counts = ap (λ n. n + 1) is ∙ sym counts.0
+counts_answer Answer.Idle r quiets new is counts = ap (λ n. n + 1) is ∙ counts
+counts_answer Answer.Failed r quiets new is counts = is ∙ sym counts
+counts_answer Answer.NoMemory r quiets new is counts = is ∙ sym counts
+
+-- what a reader counts is how often its source was quiet
+pub counts_once : (answer : Next) (got : List ℕ) (told now : Option Received) (quiets new : ℕ) → IsQuietFor told quiets → Hears told answer got now
+    → Counts (quiets_after got quiets) answer new → IsQuietFor now (quiets_behind answer new)
+counts_once answer got None now quiets new quiet hears counts = rw hears tt
+counts_once answer got (Some r) now quiets new quiet hears counts =
+    rw hears (counts_answer answer (after_bytes got r) (quiets_after got quiets) new (quiets-after got r quiets quiet) counts)
 
 -- a source that tells goes on telling
 pub hears_some : (old : Received) (told new : Option Received) (answer : Next) (got : List ℕ) → told ≡ Some old → HearsOn told new answer got

@@ -4,6 +4,7 @@ pub mod Consequences
 pub mod Places
 pub mod Handlings
 pub mod Hearings
+pub mod Endings
 pub mod Servings
 pub mod Faults
 pub mod Responses

@@ -7,12 +7,12 @@ use Rattle.std.specs.List.{concat}
 use Rattle.lg_io.specs.Link.{EndedLink}
 use Rattle.lg_io.specs.Cause.{HasCause}
 use Rattle.lg_io.specs.Sink.{WritesAll}
-use Rattle.luigid.specs.Session.{Handled, IsWhole, IsCutShort}
+use Rattle.luigid.specs.Session.{Handled, ends_connection, IsWhole, IsCutShort}
 use Rattle.luigid.specs.Transcript.{response_of}
 
 -- the responses to what was handled
 abbrev pub spoken : List Handled → List (List ℕ)
-spoken handled = map (λ (h : Handled). response_of h.answer) handled
+spoken handled = map (λ (h : Handled). response_of h.answer (ends_connection h)) handled
 
 -- a call that didn't fail leaves the count of faults at 0
 pub still_fine : (before after : ℕ) (failed : Type 0) → HasCause before after failed → (failed → ⊥) → before ≡ 0 → after ≡ 0
@@ -74,5 +74,5 @@ wrote (Some bytes) new front text (Err e) received ended reads before after quie
     }
 
 -- the responses with one more
-pub spoken-push : (handled : List Handled) (h : Handled) → spoken (handled ++ h ∷ []) ≡ spoken handled ++ response_of h.answer ∷ []
-spoken-push handled h = map-append (λ (h : Handled). response_of h.answer) handled (h ∷ [])
+pub spoken-push : (handled : List Handled) (h : Handled) → spoken (handled ++ h ∷ []) ≡ spoken handled ++ response_of h.answer (ends_connection h) ∷ []
+spoken-push handled h = map-append (λ (h : Handled). response_of h.answer (ends_connection h)) handled (h ∷ [])

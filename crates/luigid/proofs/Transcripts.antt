@@ -5,7 +5,7 @@ use Rattle.std.specs.Prelude.{◌⊎◌}
 use Rattle.std.specs.List.{concat}
 use Rattle.lg_io.specs.Link.{EndedLink}
 use Rattle.lg_io.specs.Sink.{IsPrefix}
-use Rattle.luigid.specs.Session.{Session, LinkEnd, closed, at_end, unread, unwritten, without_memory, bad, HasEnd, IsWhole, IsCutShort, responses, transcript}
+use Rattle.luigid.specs.Session.{Session, LinkEnd, closed, at_end, idle, unread, unwritten, without_memory, bad, HasEnd, IsWhole, IsCutShort, responses, transcript}
 use Rattle.luigid.proofs.Responses.{concat-push}
 
 -- all of a text is a front of it
@@ -27,10 +27,11 @@ either_front rs link (inr cut) = cut_front rs link cut
 pub front_written : (end : LinkEnd) (s : Session) → HasEnd end s → IsPrefix s.link.written (transcript s)
 front_written closed s has_end = all_of _ _ has_end.1.written
 front_written at_end s has_end = all_of _ _ has_end.2.written
+front_written idle s has_end = all_of _ _ has_end.2.written
 front_written unread s has_end = all_of _ _ has_end.2.written
 front_written unwritten s has_end = cut_front (responses s) s.link has_end.1
 front_written without_memory s has_end = all_of _ _ has_end.2.written
-front_written (bad status) s has_end = either_front (responses s) s.link has_end.3
+front_written (bad status) s has_end = either_front (responses s) s.link has_end.2
 
 either_whole : (rs : List (List ℕ)) (link : EndedLink) → IsWhole rs link ⊎ IsCutShort rs link → link.faults ≡ 0 → link.written ≡ concat rs
 either_whole rs link (inl whole) fine = whole.written
@@ -39,7 +40,8 @@ either_whole rs link (inr cut) fine = absurd (omega (arith, cut.failed))
 pub whole_written : (end : LinkEnd) (s : Session) → HasEnd end s → s.link.faults ≡ 0 → s.link.written ≡ transcript s
 whole_written closed s has_end fine = has_end.1.written
 whole_written at_end s has_end fine = has_end.2.written
+whole_written idle s has_end fine = has_end.2.written
 whole_written unread s has_end fine = has_end.2.written
 whole_written unwritten s has_end fine = absurd (omega (arith, has_end.1.failed))
 whole_written without_memory s has_end fine = has_end.2.written
-whole_written (bad status) s has_end fine = either_whole (responses s) s.link has_end.3 fine
+whole_written (bad status) s has_end fine = either_whole (responses s) s.link has_end.2 fine

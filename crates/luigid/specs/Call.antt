@@ -1,5 +1,5 @@
 -- The call that a message makes, or why it makes none. The payload is JSON (RFC 8259).
-use Rattle.std.specs.Prelude.{◌≡◌, ℕ, ◌-◌, ◌^◌, min, drop, length, if◌then◌else◌, List, codes, nat_eq, Result, Ok, Err}
+use Rattle.std.specs.Prelude.{◌≡◌, ◌⊎◌, ℕ, ◌-◌, ◌^◌, min, drop, length, if◌then◌else◌, Bool, true, List, [], codes, nat_eq, Result, Ok, Err}
 use Rattle.std.specs.List.{starts_with}
 use Rattle.std.specs.Str.{bytes_eq}
 use Rattle.lg_calls.specs.declared.method.Method.{Method}
@@ -13,7 +13,7 @@ use Rattle.lg_calls.specs.Request.{IsInRange}
 use Rattle.luigid.specs.declared.call.Asked.{Asked}
 use Rattle.luigid.specs.declared.call.Asked.TheVariants.{Call, Nothing}
 use Rattle.luigid.specs.declared.refusal.Misrouted.{Misrouted}
-use Rattle.luigid.specs.declared.refusal.Misrouted.TheVariants.{BadVerb, UnknownPath, UnknownMethod, NotBuilt}
+use Rattle.luigid.specs.declared.refusal.Misrouted.TheVariants.{BadVerb, NoLength, UnknownPath, UnknownMethod, NotBuilt}
 use Rattle.luigid.specs.declared.refusal.NoCall.{NoCall}
 use Rattle.luigid.specs.Payload.{path_of, payload_of}
 
@@ -30,9 +30,19 @@ routed (Err fault) = Err (misrouted_by fault)
 abbrev pub route_of : List ℕ → Result Method Misrouted
 route_of path = if starts_with nat_eq path (codes "/api/") then routed (method_asked (drop 5 path)) else Err UnknownPath
 
--- the method of a verb and a target: the verb is looked at first
-abbrev pub route : List ℕ → List ℕ → Result Method Misrouted
-route verb target = if bytes_eq verb (codes "POST") then route_of (path_of target) else Err BadVerb
+-- the method of a verb and a target: the verb is looked at first, and then whether a POST tells its body's length
+abbrev pub route : List ℕ → Bool → List ℕ → Result Method Misrouted
+route verb sized target =
+    if bytes_eq verb (codes "POST") then (if sized then route_of (path_of target) else Err NoLength)
+    else (if bytes_eq verb (codes "GET") then route_of (path_of target) else Err BadVerb)
+
+-- a call may be made: the verb is GET, or it is POST and a field tells how long the body is
+abbrev pub MayCall : List ℕ → Bool → Type 0
+MayCall verb sized = (verb ≡ codes "GET") ⊎ ((verb ≡ codes "POST") × (sized ≡ true))
+
+-- the part of a body that is used: that of a POST
+abbrev pub used_of : List ℕ → List ℕ → List ℕ
+used_of verb body = if bytes_eq verb (codes "POST") then body else []
 
 -- the request of a payload, or why the method refuses it
 abbrev pub or_refused : Result Request Refusal → Result Request NoCall
@@ -44,13 +54,16 @@ abbrev pub call_by : Result Method Misrouted → List ℕ → Result Request NoC
 call_by (Ok method) payload = or_refused (request_in method payload)
 call_by (Err misrouted) payload = Err (NoCall.Misrouted misrouted)
 
--- The request of a verb, a target and a body. The payload is looked at last.
-abbrev pub call_of : List ℕ → List ℕ → List ℕ → Result Request NoCall
-call_of verb target body = call_by (route verb target) (payload_of target body)
+-- The request of a verb, a target and a body, whose length a field tells or not. The payload is looked at last.
+abbrev pub call_of : List ℕ → Bool → List ℕ → List ℕ → Result Request NoCall
+call_of verb sized target body = call_by (route verb sized target) (payload_of target (used_of verb body))
 
 -- the bytes of a payload, counted by a number of 32 bits
-abbrev pub size_of : List ℕ → List ℕ → ℕ
-size_of target body = min (length (payload_of target body)) (2 ^ 32 - 1)
+abbrev pub payload_size : List ℕ → List ℕ → ℕ
+payload_size target body = min (length (payload_of target body)) (2 ^ 32 - 1)
+
+abbrev pub size_of : List ℕ → List ℕ → List ℕ → ℕ
+size_of verb target body = payload_size target (used_of verb body)
 
 -- what was read of a message is that request, in range, and that size, or that reason
 abbrev pub Asks : Asked → Result Request NoCall → ℕ → Type 0

@@ -2,17 +2,19 @@
 use Rattle.std.specs.Prelude.{ℕ, List, codes}
 use Rattle.lg_calls.specs.Refusal.{refusal_text}
 use Rattle.luigid.specs.declared.refusal.Misrouted.{Misrouted}
-use Rattle.luigid.specs.declared.refusal.Misrouted.TheVariants.{BadVerb, UnknownPath, UnknownMethod, NotBuilt}
+use Rattle.luigid.specs.declared.refusal.Misrouted.TheVariants.{BadVerb, NoLength, UnknownPath, UnknownMethod, NotBuilt}
 use Rattle.luigid.specs.declared.refusal.NoCall.{NoCall}
 
 abbrev pub misrouted_status : Misrouted → ℕ
 misrouted_status BadVerb = 405
+misrouted_status NoLength = 411
 misrouted_status UnknownPath = 404
 misrouted_status UnknownMethod = 404
 misrouted_status NotBuilt = 501
 
 abbrev pub misrouted_text : Misrouted → List ℕ
 misrouted_text BadVerb = codes "bad verb"
+misrouted_text NoLength = codes "no length"
 misrouted_text UnknownPath = codes "unknown path"
 misrouted_text UnknownMethod = codes "unknown method"
 misrouted_text NotBuilt = codes "not built"

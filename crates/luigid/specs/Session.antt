@@ -3,6 +3,8 @@ use Rattle.std.specs.Prelude.{◌≡◌, ℕ, ◌<◌, ◌≤◌, ◌⊎◌, Boo
 use Rattle.std.specs.List.{concat, flat_map, filter_map}
 use Rattle.lg_io.specs.Link.{EndedLink}
 use Rattle.lg_io.specs.Sink.{IsPrefix}
+use Rattle.lg_http.specs.Answers.{max_quiets}
+use Rattle.lg_http.specs.Fields.{is_sized, closes}
 use Rattle.lg_http.specs.Messages.{WholeMessage, message_bytes, IsMessage, IsBad, IsUndecided, WantsMemory}
 use Rattle.lg_desk.specs.declared.journal.Entry.{Entry}
 use Rattle.luigid.specs.declared.refusal.NoCall.{NoCall}
@@ -22,9 +24,9 @@ pub record Handled : Type 0 where
   pub moments : List ℕ
 
 -- How a connection ended: behind its last response; where no message stood, which is answered with that status; at the
--- end of its input; by a read that failed; by a write that failed; or for want of memory.
+-- end of its input; where its source stayed quiet; by a read that failed; by a write that failed; or for want of memory.
 pub data LinkEnd : Type 0 where
-  closed at_end unread unwritten without_memory : LinkEnd
+  closed at_end idle unread unwritten without_memory : LinkEnd
   bad : ℕ → LinkEnd
 
 -- a connection from its first byte to its end: what its link did, the messages that were answered, the bytes behind
@@ -44,13 +46,13 @@ moments_of session = flat_map (λ (h : Handled). h.moments) session.handled
 
 -- the request that a message makes, or why it makes none
 abbrev pub asked_by : WholeMessage → Result Request NoCall
-asked_by m = call_of m.head.method m.head.target m.body
+asked_by m = call_of m.head.method (is_sized m.head) m.head.target m.body
 
 -- the entry of a message that makes that request, at that moment
 abbrev pub entry_of : ℕ → ℕ → ℕ → WholeMessage → Request → ℕ → Entry
 entry_of lane connection nth m request now = record {
   pass = lane;
-  who = record { lane = lane; connection = connection; nth = nth; size = size_of m.head.target m.body };
+  who = record { lane = lane; connection = connection; nth = nth; size = size_of m.head.method m.head.target m.body };
   now = record { 0 = now };
   request = request;
 }
@@ -94,6 +96,10 @@ IsAnswered journal lane connection nth h no_memory = IsWithoutMemory h
 abbrev pub IsHandled : List Entry → ℕ → ℕ → ℕ → Handled → Type 0
 IsHandled journal lane connection nth h = IsAnswered journal lane connection nth h h.answer
 
+-- its response is the connection's last
+abbrev pub ends_connection : Handled → Bool
+ends_connection h = is_last (closes h.message.head) h.answer
+
 -- P of each item with its place
 abbrev pub Each : {A : Type 0} → (ℕ → A → Type 0) → List A → Type 0
 Each {A} P items = (place : ℕ) (item : A) → slice_get items place ≡ Some item → P place item
@@ -102,6 +108,7 @@ Each {A} P items = (place : ℕ) (item : A) → slice_get items place ≡ Some i
 abbrev pub end_response : LinkEnd → List (List ℕ)
 end_response closed = []
 end_response at_end = []
+end_response idle = []
 end_response unread = []
 end_response unwritten = []
 end_response without_memory = []
@@ -109,7 +116,7 @@ end_response (bad status) = error_response status ∷ []
 
 -- the responses of a connection, in order: one to each message, and the error response where no message stood
 abbrev pub responses : Session → List (List ℕ)
-responses session = map (λ (h : Handled). response_of h.answer) session.handled ++ end_response session.end
+responses session = map (λ (h : Handled). response_of h.answer (ends_connection h)) session.handled ++ end_response session.end
 
 -- a connection's transcript is its responses, one behind the other
 abbrev pub transcript : Session → List ℕ
@@ -117,7 +124,7 @@ transcript session = concat (responses session)
 
 -- a response behind which the connection goes on
 abbrev pub GoesOn : Handled → Type 0
-GoesOn h = is_last h.answer ≡ false
+GoesOn h = ends_connection h ≡ false
 
 -- the last response is the connection's last, and those before it aren't
 pub record EndsLast (handled : List Handled) : Type 0 where
@@ -125,7 +132,7 @@ pub record EndsLast (handled : List Handled) : Type 0 where
   pub last : Handled
   pub whole : handled ≡ front ++ last ∷ []
   pub before : All GoesOn front
-  pub closes : is_last last.answer ≡ true
+  pub closes : ends_connection last ≡ true
 
 -- nothing, or a message that is cut short
 abbrev pub IsCut : List ℕ → Type 0
@@ -162,16 +169,18 @@ pub record IsUnheard (session : Session) : Type 0 where
 abbrev pub HasEnd : LinkEnd → Session → Type 0
 HasEnd closed s = EndsLast s.handled × IsWhole (responses s) s.link
 HasEnd at_end s = All GoesOn s.handled × IsCut s.rest × IsWhole (responses s) s.link
+HasEnd idle s = All GoesOn s.handled × IsCut s.rest × IsWhole (responses s) s.link × (s.link.quiets ≡ max_quiets)
 HasEnd unread s = All GoesOn s.handled × IsCut s.rest × IsUnread (responses s) s.link
 HasEnd unwritten s = (All GoesOn s.handled ⊎ EndsLast s.handled) × IsCutShort (responses s) s.link
 HasEnd without_memory s = All GoesOn s.handled × (WantsMemory s.rest ⊎ IsUnheard s) × IsWhole (responses s) s.link
 HasEnd (bad status) s =
-    All GoesOn s.handled × IsBad s.rest × (status ≡ 400) × (IsWhole (responses s) s.link ⊎ IsCutShort (responses s) s.link)
+    All GoesOn s.handled × IsBad status s.rest × (IsWhole (responses s) s.link ⊎ IsCutShort (responses s) s.link)
 
 -- the source answered its end
 abbrev pub is_at_end : LinkEnd → Bool
 is_at_end closed = false
 is_at_end at_end = true
+is_at_end idle = false
 is_at_end unread = false
 is_at_end unwritten = false
 is_at_end without_memory = false

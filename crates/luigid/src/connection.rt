@@ -56,10 +56,11 @@ pub fn serve_connection<R: Wait, E: Engine, L: Link, K: Clock>(
                     nth,
                 };
                 let said = handle(alloc, life, place, &message, clock);
-                if speak(&said, link).is_err() {
+                let last = said.is_last(message.last);
+                if speak(&said, last, link).is_err() {
                     return;
                 }
-                if said.is_last() {
+                if last {
                     return;
                 }
             }
@@ -69,6 +70,7 @@ pub fn serve_connection<R: Wait, E: Engine, L: Link, K: Clock>(
             }
             Next::End => return,
             Next::Torn => return,
+            Next::Idle => return,
             Next::Failed => return,
             Next::NoMemory => return,
             Next::Quiet => unreachable!(),

@@ -7,7 +7,7 @@ ghost use Rattle.luigid.specs.Handling.{Handles};
 ghost use Rattle.lg_desk.specs.Journal.{is_over, GoesOnBy};
 ghost use Rattle.lg_desk.specs.Replay.{replay};
 ghost use Rattle.luigid.specs.Said.{answer_of};
-ghost use Rattle.luigid.specs.Transcript.{is_last};
+ghost use Rattle.luigid.specs.Transcript.{is_marked};
 
 use crate::call::{Asked, read_call};
 use crate::life::Life;
@@ -43,7 +43,7 @@ pub fn handle<E: Engine, K: Clock>(
         (K.calls clock.old) (K.calls clock.new) }
     ensures replayed { (base : State) → E.state life.old.engine ≡ replay base life.old.journal → E.state life.new.engine ≡ replay base life.new.journal }
     ensures goes_on { GoesOnBy place.lane life.old.journal life.new.journal }
-    ensures not_over { is_last (answer_of result) ≡ false → is_over life.new.journal ≡ false }
+    ensures not_over { is_marked (answer_of result) ≡ false → is_over life.new.journal ≡ false }
     ensures rest { K.rest clock.new ≡ K.rest clock.old }
 {
     let (request, size) = match read_call(alloc, message) {

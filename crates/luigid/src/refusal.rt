@@ -6,8 +6,10 @@ use lg_calls::{MethodFault, Refusal};
 /// Why a message reaches no method: the first of these that applies. Its payload isn't looked at.
 #[derive(Clone, Copy, Debug, PartialEq, Eq)]
 pub enum Misrouted {
-    /// The verb isn't POST.
+    /// The verb is neither GET nor POST.
     BadVerb,
+    /// A POST doesn't tell how long its body is.
+    NoLength,
     /// The path doesn't begin with `/api/`.
     UnknownPath,
     /// No method has this name.
@@ -34,6 +36,7 @@ impl Misrouted {
     {
         match self {
             Misrouted::BadVerb => 405,
+            Misrouted::NoLength => 411,
             Misrouted::UnknownPath | Misrouted::UnknownMethod => 404,
             Misrouted::NotBuilt => 501,
         }
@@ -45,6 +48,7 @@ impl Misrouted {
     {
         match self {
             Misrouted::BadVerb => "bad verb",
+            Misrouted::NoLength => "no length",
             Misrouted::UnknownPath => "unknown path",
             Misrouted::UnknownMethod => "unknown method",
             Misrouted::NotBuilt => "not built",

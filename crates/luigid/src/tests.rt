@@ -34,13 +34,14 @@ const TWO_RESPONSES: &[u8] =
 /// Where the second response begins.
 const NULL_AT: usize = 88;
 
-/// What the outside does: the inputs of the links that come; how many bytes a read gives and a write takes at most; and
-/// which calls fail, by their numbers, those of one link among them.
+/// What the outside does: the inputs of the links that come; how many bytes a read gives and a write takes at most; how often
+/// a link is quiet before its first byte; and which calls fail, by their numbers, those of one link among them.
 #[derive(Clone, Copy)]
 struct Script<'a, 'b> {
     words: &'static [&'static str],
     inputs: &'a [&'b [u8]],
     most: usize,
+    quiets: usize,
     faulty: usize,
     read: Option<u64>,
     write: Option<u64>,
@@ -53,6 +54,7 @@ const PLAIN: Script<'static, 'static> = Script {
     words: &["--stdio"],
     inputs: &[],
     most: 4096,
+    quiets: 1,
     faulty: 0,
     read: None,
     write: None,
@@ -85,14 +87,14 @@ fn plan(alloc: Global, failing: Option<u64>) -> Result<FaultList, Fail> {
     Ok(FaultList::new(failing.into_iter().collect(alloc)?))
 }
 
-/// The link of that number. Its first read is quiet.
+/// The link of that number.
 fn link_of(
     alloc: Global,
     script: &Script<'_, '_>,
     number: usize,
     input: &[u8],
 ) -> Result<MemoryLink<FaultList>, Fail> {
-    let mut turns = vec![in alloc; Turn::Quiet]?;
+    let mut turns = vec![in alloc; Turn::Quiet; script.quiets]?;
     for _ in 0..=input.len() / script.most.max(1) {
         turns.push(Turn::Piece(script.most))?;
     }

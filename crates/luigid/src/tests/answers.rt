@@ -21,14 +21,14 @@ const REFUSED: &[u8] =
 fn a_full_scheduler_and_a_chosen_name_are_told(rt: HostRuntime) -> Result<(), Fail> {
     let alloc = rt.alloc();
     let mut sink = MemorySink::new(alloc, 4096, NoFaults);
-    assert!(rt; Said::Full(1, true).say(&mut sink).is_ok());
+    assert!(rt; Said::Full(1, true).say(true, &mut sink).is_ok());
     assert_eq!(rt; sink.bytes(), FULL);
     let name = Name::from(Text::copied(alloc, CHOSEN)?);
     let refusal = Refusal::WrongKind(ArgumentName::from(name));
     let mut sink = MemorySink::new(alloc, 4096, NoFaults);
     assert!(rt;
         Said::NotCalled(NoCall::Refused(refusal))
-            .say(&mut sink)
+            .say(false, &mut sink)
             .is_ok()
     );
     assert_eq!(rt; sink.bytes(), REFUSED);

@@ -1,7 +1,7 @@
 //! Several links of one door, and the limit of the journal.
 
 use super::refusals::{ANSWERED_TRUE, STOP, STOPPED};
-use super::{PLAIN, Script, assert_ended, assert_served, run_of};
+use super::{PLAIN, Script, TWO_CALLS, TWO_RESPONSES, assert_ended, assert_served, run_of};
 use crate::audit::LifeEnd;
 use std::alloc::Global;
 use std::process::Abort;
@@ -142,4 +142,21 @@ fn a_journal_has_so_many_bytes(rt: HostRuntime) -> Result<(), Fail> {
     )?;
     input.extend_from_slice(SET)?;
     assert_full(&rt, alloc, &input, 256, 257)
+}
+
+#[test]
+fn a_link_that_stays_quiet_is_left(rt: HostRuntime) -> Result<(), Fail> {
+    let rows: [(usize, &[u8], usize, LifeEnd); 2] = [
+        (599, TWO_RESPONSES, 2, LifeEnd::Stop),
+        (600, b"", 0, LifeEnd::Closed),
+    ];
+    for (quiets, output, calls, end) in rows {
+        let script = Script {
+            inputs: &[TWO_CALLS],
+            quiets,
+            ..PLAIN
+        };
+        assert_served(&rt, rt.alloc(), &script, &[output], calls, end)?;
+    }
+    Ok(())
 }

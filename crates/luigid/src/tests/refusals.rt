@@ -24,21 +24,59 @@ const FIVE_RESPONSES: &[u8] =
 const BAD_MESSAGE: &[u8] =
     b"HTTP/1.1 400 Bad Request\r\nContent-Type: application/json\r\nContent-Length: 23\r\nConnection: close\r\n\r\n{\"error\":\"bad message\"}";
 
+/// The response to a length above the most.
+const BODY_TOO_LONG: &[u8] =
+    b"HTTP/1.1 413 Content Too Large\r\nContent-Type: application/json\r\nContent-Length: 25\r\nConnection: close\r\n\r\n{\"error\":\"body too long\"}";
+
+/// The response to too many fields.
+const HEAD_TOO_LONG: &[u8] =
+    b"HTTP/1.1 431 Request Header Fields Too Large\r\nContent-Type: application/json\r\nContent-Length: 25\r\nConnection: close\r\n\r\n{\"error\":\"head too long\"}";
+
+/// The response to a POST that doesn't tell how long its body is.
+const NO_LENGTH: &[u8] =
+    b"HTTP/1.1 411 Length Required\r\nContent-Type: application/json\r\nContent-Length: 21\r\nConnection: close\r\n\r\n{\"error\":\"no length\"}";
+
+/// The last responses to a verb and to a method that nobody knows.
+const LAST_BAD_VERB: &[u8] =
+    b"HTTP/1.1 405 Method Not Allowed\r\nContent-Type: application/json\r\nContent-Length: 20\r\nConnection: close\r\n\r\n{\"error\":\"bad verb\"}";
+
+const LAST_UNKNOWN_METHOD: &[u8] =
+    b"HTTP/1.1 404 Not Found\r\nContent-Type: application/json\r\nContent-Length: 26\r\nConnection: close\r\n\r\n{\"error\":\"unknown method\"}";
+
+/// What ends its connection, with its response.
+const ENDING: [(&[u8], &[u8]); 8] = [
+    (b"stop\r\n\r\n", BAD_MESSAGE),
+    (
+        b"POST /api/stop HTTP/1.1\r\nContent-Length: 0\r\ncontent-length: 0\r\n\r\n",
+        BAD_MESSAGE,
+    ),
+    (
+        b"POST /api/stop HTTP/1.1\r\nContent-Length: 1048577\r\n\r\n",
+        BODY_TOO_LONG,
+    ),
+    (
+        b"POST /api/stop HTTP/1.1\na:\na:\na:\na:\na:\na:\na:\na:\na:\na:\na:\na:\na:\na:\na:\na:\na:\na:\na:\na:\na:\na:\na:\na:\na:\na:\na:\na:\na:\na:\na:\na:\na:\na:\na:\na:\na:\na:\na:\na:\na:\na:\na:\na:\na:\na:\na:\na:\na:\na:\na:\na:\na:\na:\na:\na:\na:\na:\na:\na:\na:\na:\na:\na:\na:\n\n",
+        HEAD_TOO_LONG,
+    ),
+    (b"POST /api/stop HTTP/1.1\r\nHost: x\r\n\r\n", NO_LENGTH),
+    (b"POST /nope HTTP/1.0\r\n\r\n", NO_LENGTH),
+    (
+        b"PUT /api/stop HTTP/1.1\r\nconnection: x, CLOSE\r\nContent-Length: 0\r\n\r\n",
+        LAST_BAD_VERB,
+    ),
+    (b"GET /api/nope HTTP/1.0\r\n\r\n", LAST_UNKNOWN_METHOD),
+];
+
 #[test]
-fn what_is_no_message_ends_the_connection(rt: HostRuntime) -> Result<(), Fail> {
-    let bad: [&[u8]; 5] = [
-        b"GET /api/stop HTTP/1.1\r\nHost: x\r\nContent-Length: 0\r\n\r\n",
-        b"POST /api/stop HTTP/1.1\r\nHost: x\r\n\r\n",
-        b"POST /api/stop HTTP/1.0\r\nHost: x\r\nContent-Length: 0\r\n\r\n",
-        b"PUT /api/stop HTTP/1.1\r\nHost: x\r\nConnection: close\r\nContent-Length: 0\r\n\r\n",
-        b"stop\r\n\r\n",
-    ];
-    for input in bad {
+fn nothing_is_answered_behind_a_last_response(rt: HostRuntime) -> Result<(), Fail> {
+    for (message, response) in ENDING {
+        let mut input = message.to_vec(rt.alloc())?;
+        input.extend_from_slice(STOP)?;
         let script = Script {
-            inputs: &[input],
+            inputs: &[input.as_slice()],
             ..PLAIN
         };
-        assert_served(&rt, rt.alloc(), &script, &[BAD_MESSAGE], 0, LifeEnd::Closed)?;
+        assert_served(&rt, rt.alloc(), &script, &[response], 0, LifeEnd::Closed)?;
     }
     Ok(())
 }
@@ -121,7 +159,12 @@ fn assert_answered<R: Wait + Abort>(
 }
 
 /// Messages that make no call, with their responses.
-const REFUSED: [(&[u8], &[u8]); 24] = [
+const REFUSED: [(&[u8], &[u8]); 26] = [
+    (b"GET /api/nope HTTP/1.1\r\n\r\n", UNKNOWN_METHOD),
+    (
+        b"GET /api/stop?data=[] HTTP/1.1\r\nContent-Length: 7\r\n\r\ndata={}",
+        BAD_JSON,
+    ),
     (
         b"PUT /api/stop HTTP/1.1\r\nHost: x\r\nContent-Length: 0\r\n\r\n",
         BAD_VERB,
@@ -235,7 +278,11 @@ const ANSWERED_FALSE: &[u8] =
     b"HTTP/1.1 200 OK\r\nContent-Type: application/json\r\nContent-Length: 18\r\n\r\n{\"response\":false}";
 
 /// Calls with amounts at the ends of their range, with their responses.
-const ANSWERED: [(&[u8], &[u8]); 5] = [
+const ANSWERED: [(&[u8], &[u8]); 6] = [
+    (
+        b"GET /api/update_resource?data={\"resource\":\"gpu\",\"amount\":2} HTTP/1.1\r\nContent-Length: 6\r\n\r\ndata=x",
+        ANSWERED_TRUE,
+    ),
     (
         b"POST /api/update_resource HTTP/1.1\r\nHost: x\r\nContent-Length: 35\r\n\r\ndata={\"resource\":\"gpu\",\"amount\":-1}",
         ANSWERED_FALSE,
