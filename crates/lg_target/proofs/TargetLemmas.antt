@@ -1,5 +1,5 @@
 -- Maps of files over calls that stay aside, and over one rename.
-use Rattle.std.proofs.Common.{◌≡◌, ℕ, ◌≢◌, Bool, true, false, List, [], ◌∷◌, ◌++◌, Option, Some, None, ◌⊎◌, inl, inr, true≢false, length, drop, refl, sym, ap, subst, ◌∙◌, append_assoc}
+use Rattle.std.proofs.Common.{◌≡◌, ℕ, ◌≢◌, Bool, true, false, List, [], ◌∷◌, ◌++◌, Some, ◌⊎◌, inl, inr, true≢false, length, drop, refl, sym, ap, subst, ◌∙◌, append_assoc}
 use Rattle.std.specs.Prelude.{All}
 use Rattle.std.specs.Str.{bytes_eq}
 use Rattle.std.specs.FinMap.{get, insert, get-insert, get-remove, slice_cmp-IsAntisymmetric, nat_cmp-IsAntisymmetric}
@@ -15,7 +15,7 @@ use Rattle.std.proofs.lemmas.List.Elements.{All-nil, All-cons, All-head, All-tai
 use Rattle.std.proofs.lemmas.Map.Text.{is_eq-slice_cmp}
 use Rattle.std.proofs.lemmas.Slice.Eq.{bytes_eq-Decides}
 use Rattle.std.proofs.Math.Seq.{drop-append_seam}
-use Rattle.lg_io.specs.Files.{FileMap, FileCall, read, create, append, close, rename, remove, exists, make_folder, FileAnswer, found, is, absent, done, failed, no_memory, AnsweredCall, FilesTold, IsCalled, Does, IsTemporary, Appears, AppearInTurn, SameBut, present}
+use Rattle.lg_io.specs.Files.{FileMap, FileCall, read, create, append, close, rename, remove, exists, make_folder, FileAnswer, found, is, absent, done, failed, no_memory, AnsweredCall, FilesTold, IsCalled, Does, IsTemporary, AppearInTurn, present}
 use Rattle.lg_target.specs.Target.{Stays, IsOld, IsMovedTo, IsReplaced, IsOldOrWhole, AreCalled, maps_between, StaysAside, StayAside, RenamesOnce}
 
 -- the last of some maps and others behind it

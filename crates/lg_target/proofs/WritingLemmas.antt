@@ -1,13 +1,13 @@
 -- What is written aside is what a rename moves.
-use Rattle.std.proofs.Common.{◌≡◌, ℕ, ◌≢◌, List, [], ◌∷◌, ◌++◌, Option, Some, None, map, unwrap_or, refl, sym, ap, subst, ◌∙◌, append_assoc}
+use Rattle.std.proofs.Common.{◌≡◌, ℕ, ◌≢◌, List, [], ◌∷◌, ◌++◌, Some, map, unwrap_or, sym, ap, ◌∙◌, append_assoc}
 use Rattle.std.specs.FinMap.{get, insert}
 use Rattle.std.specs.List.{concat}
 use Rattle.std.proofs.lemmas.List.{append-nil}
 use Rattle.std.proofs.lemmas.List.Elements.{All-nil, All-cons}
 use Rattle.std.proofs.lemmas.Option.{none-some}
-use Rattle.lg_io.specs.Files.{FileMap, FileCall, create, append, close, rename, FileAnswer, done, AnsweredCall, FilesTold, IsCalled, IsTemporary, Appears, AppearInTurn, present}
+use Rattle.lg_io.specs.Files.{FileMap, FileCall, create, append, close, rename, FileAnswer, done, AnsweredCall, FilesTold, IsCalled, IsTemporary, AppearInTurn, present}
 use Rattle.lg_target.specs.Target.{IsMovedTo, IsReplaced, AreCalled, maps_between, StayAside, StaysAside, writing}
-use Rattle.lg_target.proofs.TargetLemmas.{present-append, get-insert_other, get-insert_same, called_in_two, calls_aside, replaced, GoesOn}
+use Rattle.lg_target.proofs.TargetLemmas.{present-append, get-insert_other, get-insert_same, called_in_two, calls_aside, replaced}
 
 -- a file that is there stays as it is while others appear
 appear_keeps : (before : FileMap) (more : List FileMap) (path bytes : List ℕ) → get before path ≡ Some bytes → AppearInTurn before more

@@ -1,5 +1,5 @@
 //! What the definitions come to, in the words of those who read the files.
-ghost use Rattle.std.specs.Prelude.{◌≡◌, ◌≢◌, ℕ, ◌<◌, ◌^◌, List, [], ◌∷◌, ◌++◌, length, Contains};
+ghost use Rattle.std.specs.Prelude.{◌≡◌, ℕ, List, [], ◌∷◌, ◌++◌, length, Contains};
 ghost use Rattle.std.specs.List.{concat};
 ghost use Rattle.lg_io.specs.Files.{AnsweredCall, FilesTold, IsTemporary, rename, done};
 ghost use Rattle.lg_target.specs.Naming.{AsideFile, IsNamed, ten_digits, folder_above};
