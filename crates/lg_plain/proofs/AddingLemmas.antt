@@ -327,7 +327,8 @@ module _
               (All-map V (then_begun V id set begin) (change_meant (is_meant id None) set s.tasks)
               (All-map (λ task. V (then_begun V id set begin task)) (λ task. once V id set begin (is_meant id None task) task) s.tasks
               (All-weaker V (λ task. V (then_begun V id set begin (once V id set begin (is_meant id None task) task)))
-              (λ task. fused V id set begin place.id (λ t. valid-set_begun ask s.settings.retry_delay s.moment t) task (has_id id task) (is_meant id None task) (meant-alone id task) refl)
+              (λ task valid. fused V id set begin place.id task (has_id id task) (is_meant id None task) (meant-alone id task) refl
+              (λ has. valid-set_begun ask s.settings.retry_delay s.moment task valid) valid)
               s.tasks here.tasks)));
         };
         balance = omega (arith, one, two);

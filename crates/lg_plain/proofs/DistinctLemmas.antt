@@ -7,7 +7,7 @@ use Rattle.lg_calls.specs.Task.{Task}
 use Rattle.lg_calls.specs.Tasks.{ids_of, have_distinct_ids, has_id, find_task, append_task}
 use Rattle.lg_plain.proofs.PathLemmas.{same-is, and-both, and-first, and-second}
 
-first-not : (b : Bool) (m : Task) (rest : Option Task) → cond b (Some m) rest ≡ None → (b ≡ false) × (rest ≡ None)
+pub first-not : (b : Bool) (m : Task) (rest : Option Task) → cond b (Some m) rest ≡ None → (b ≡ false) × (rest ≡ None)
 first-not true m rest e = absurd (none-some m (sym e))
 first-not false m rest e = (refl, e)
 

@@ -2,6 +2,7 @@ mod AddedLemmas
 mod AddingLemmas
 mod DescribedLemmas
 mod DistinctLemmas
+mod GivenLemmas
 mod IndexLemmas
 mod KeptLemmas
 mod LawLemmas

@@ -65,12 +65,12 @@ module _ (P : Task → Type 0) (id : List ℕ) (set begin : Task → Task) where
   abbrev pub then_begun : Task → Task
   then_begun task = cond (has_id id task) (begin task) task
 
-  pub fused : ((task : Task) → (set task).id ≡ task.id) → ((task : Task) → P task → P (begin (set task)))
-      → (task : Task) (b meant : Bool) → meant ≡ b → has_id id task ≡ b → P task → P (then_begun (once meant task))
-  fused keeps valid task true meant is has here =
+  pub fused : ((task : Task) → (set task).id ≡ task.id) → (task : Task) (b meant : Bool) → meant ≡ b → has_id id task ≡ b
+      → (has_id id task ≡ true → P (begin (set task))) → P task → P (then_begun (once meant task))
+  fused keeps task true meant is has valid here =
       subst (λ m. P (then_begun (once m task))) (sym is)
-      (subst (λ t. P (cond t (begin (set task)) (set task))) (sym (ap (is_same id) (keeps task) ∙ has)) (valid task here))
-  fused keeps valid task false meant is has here =
+      (subst (λ t. P (cond t (begin (set task)) (set task))) (sym (ap (is_same id) (keeps task) ∙ has)) (valid has))
+  fused keeps task false meant is has valid here =
       subst (λ m. P (then_begun (once m task))) (sym is) (subst (λ t. P (cond t (begin task) task)) (sym has) here)
 
   pub alone-set : (task : Task) (b meant : Bool) → meant ≡ b → has_id id task ≡ b → (has_id id task ≡ true → P (set task)) → P task → P (once meant task)

@@ -33,12 +33,12 @@ known-step : (now : Moment) (id : List ℕ) (found : Option WorkerRec) → IfSom
 known-step now id None valid = record { started = omega arith; last_active = omega arith; last_get_work = tt; info = tt }
 known-step now id (Some worker) valid = valid
 
-valid-known : (id : List ℕ) (s : State) → IsValidState s → IsValidWorker s.moment (known_or_new id s.moment s.workers)
+pub valid-known : (id : List ℕ) (s : State) → IsValidState s → IsValidWorker s.moment (known_or_new id s.moment s.workers)
 valid-known id s valid =
     known-step s.moment id (find_worker id s.workers) (All-find (IsValidWorker s.moment) (λ worker. is_same id worker.id) s.workers valid.workers)
 
 -- a valid worker is put at its place
-valid-put : (worker : WorkerRec) (s : State) → IsValidWorker s.moment worker → IsValidState s → IsValidState (put_worker worker s)
+pub valid-put : (worker : WorkerRec) (s : State) → IsValidWorker s.moment worker → IsValidState s → IsValidState (put_worker worker s)
 valid-put worker s good valid = record {
   moment_in_range = valid.moment_in_range;
   pruned_before = valid.pruned_before;

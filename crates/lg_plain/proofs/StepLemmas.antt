@@ -3,11 +3,12 @@ use Rattle.std.proofs.Common.{◌≡◌, ℕ, ◌^◌, ◌<◌, ◌≤◌, Bool,
 use Rattle.std.specs.Prelude.{max}
 use Rattle.lg_base.specs.Amounts.{AmountsByName}
 use Rattle.lg_base.specs.declared.moment.Moment.{Moment}
-use Rattle.lg_json.specs.Tree.{null, tree_of}
+use Rattle.lg_json.specs.Tree.{null}
 use Rattle.lg_calls.specs.declared.engine.Reply.{Reply}
 use Rattle.lg_calls.specs.declared.engine.StepFault.{StepFault}
 use Rattle.lg_calls.specs.declared.engine.StepFault.TheVariants.{Full, NoMemory}
 use Rattle.lg_calls.specs.declared.methods.add_task.AddTask.{AddTask}
+use Rattle.lg_calls.specs.declared.methods.get_work.GetWork.{GetWork}
 use Rattle.lg_calls.specs.declared.request.Request.{Request}
 use Rattle.lg_calls.specs.declared.request.Request.TheVariants as R
 use Rattle.lg_calls.specs.declared.state.State.{State}
@@ -26,8 +27,12 @@ use Rattle.lg_calls.specs.Step.{applied, begun, step, where_replied}
 use Rattle.lg_calls.specs.Task.{Task}
 use Rattle.lg_calls.specs.Tasks.{have_distinct_ids, have_rising_numbers}
 use Rattle.lg_calls.specs.Valid.{IsValidState, NotLater}
+use Rattle.lg_calls.specs.Work.Candidate.{first_candidate}
+use Rattle.lg_calls.specs.Work.Laws.{IsFirst, StandByRank}
+use Rattle.lg_calls.specs.Work.Rank.{by_rank}
 use Rattle.lg_calls.proofs.CallerLemmas.{begun_by, state-rise}
 use Rattle.lg_plain.specs.Requests.{Applies}
+use Rattle.lg_plain.proofs.GivenLemmas.{valid-work_given}
 use Rattle.lg_plain.proofs.OutcomeLemmas.{AddingKeeps}
 use Rattle.lg_plain.proofs.RequestLemmas.{valid-touched, valid-worker_added, valid-worker_disabled}
 use Rattle.lg_plain.proofs.SettlingLemmas.{SettingKeeps, valid-set_where}
@@ -98,7 +103,9 @@ module _
     (setting : SettingKeeps)
     (adding : AddingKeeps)
     (distinct : (tasks : List Task) → IsTrue (have_distinct_ids tasks) → IdsStayDistinct tasks)
-    (rising : (tasks : List Task) → IsTrue (have_rising_numbers tasks) → NumbersKeepRising tasks) where
+    (rising : (tasks : List Task) → IsTrue (have_rising_numbers tasks) → NumbersKeepRising tasks)
+    (ranks : (tasks : List Task) → IsTrue (have_rising_numbers tasks) → StandByRank tasks (by_rank tasks))
+    (first : (ask : GetWork) (s : State) (task : Task) → first_candidate ask s ≡ Some task → IsFirst ask s task) where
   valid-task_added : (base s : State) (ask : AddTask) → IsTrue (add_task_in_range ask) → IsValidState base → IsValidState s
       → IsValidState (where_replied base (task_added ask s)).0
   valid-task_added base s ask in_range there valid = by_room (has_no_room s (added ask s)) refl where
@@ -112,15 +119,22 @@ module _
   valid-applied base s (R.AddTask ask) in_range there valid = valid-task_added base s ask in_range there valid
   valid-applied base s (R.AddWorker ask) in_range there valid = valid-worker_added ask s valid
   valid-applied base s R.AnnounceSchedulingFailure in_range there valid = valid
+  valid-applied base s (R.CountPending ask) in_range there valid = valid
   valid-applied base s (R.DisableWorker ask) in_range there valid = valid-worker_disabled distinct rising ask.worker s valid
+  valid-applied base s (R.FetchError ask) in_range there valid = valid
   valid-applied base s (R.ForgiveFailures ask) in_range there valid = valid-set_where setting can_be_forgiven Pending ask.task_id s refl valid
+  valid-applied base s (R.GetWork ask) in_range there valid = valid-work_given ranks rising first base ask s valid
   valid-applied base s R.HasTaskHistory in_range there valid = valid
   valid-applied base s R.IsPauseEnabled in_range there valid = valid
   valid-applied base s R.IsPaused in_range there valid = valid
   valid-applied base s (R.MarkAsDone ask) in_range there valid = valid-set_where setting can_be_done Done ask.task_id s refl valid
   valid-applied base s R.Pause in_range there valid = valid-set_paused true s valid
   valid-applied base s (R.Ping ask) in_range there valid = valid-touched ask.worker s valid
+  valid-applied base s R.ResourceList in_range there valid = valid
+  valid-applied base s R.Resources in_range there valid = valid
+  valid-applied base s R.StatusCounts in_range there valid = valid
   valid-applied base s R.Stop in_range there valid = valid
+  valid-applied base s (R.TaskSearch ask) in_range there valid = valid
   valid-applied base s R.Unpause in_range there valid = valid-set_paused false s valid
   valid-applied base s (R.UpdateResource ask) in_range there valid = valid-limit_set base s ask.resource ask.amount valid
   valid-applied base s (R.UpdateResources ask) in_range there valid = with_limits s _ valid

@@ -172,4 +172,6 @@ pub fn steps_keep_validity()
     adding_keeps_validity();
     lg_calls::laws::ids_stay_distinct();
     lg_calls::laws::numbers_keep_rising();
+    lg_calls::laws::who_walks_by_rank();
+    lg_calls::laws::the_first_is_given();
 }
