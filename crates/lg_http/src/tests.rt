@@ -1,7 +1,8 @@
 //! Readers over sources in memory, and responses to sinks in memory.
 use crate::{Message, Next, Reader};
-use lg_io::{MemorySource, NoFaults, Turn};
+use lg_io::{MemorySource, NoFaults, Source, Turn};
 use std::alloc::Global;
+use std::process::Abort;
 use std::test::Fail;
 
 mod heads;
@@ -77,4 +78,10 @@ fn first(alloc: Global, input: &[u8]) -> Result<Next, Fail> {
     let mut source = source_of(alloc, input, &[])?;
     let mut reader = Reader::make(alloc)?;
     Ok(reader.next(alloc, &mut source))
+}
+
+/// What a reader answers next. It gave no last message before.
+fn next<S: Source>(rt: &impl Abort, alloc: Global, reader: &mut Reader, source: &mut S) -> Next {
+    assert!(rt; !reader.is_closed());
+    reader.next(alloc, source)
 }

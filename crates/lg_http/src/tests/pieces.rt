@@ -1,5 +1,5 @@
 //! Messages that come in pieces, and what is answered where one doesn't come.
-use super::{Expected, Parts, TWO_CALLS, first, is_expected, post, source_of, two_calls};
+use super::{Expected, Parts, TWO_CALLS, first, is_expected, next, post, source_of, two_calls};
 use crate::{Next, Reader};
 use lg_io::{FaultList, MemorySource, ReadStep, Source, Turn};
 use std::alloc::Global;
@@ -23,12 +23,12 @@ fn assert_answers(
         if cut < *decided && !was_quiet {
             was_quiet = true;
             for quiets in 1..=2 {
-                assert!(rt; matches!(&reader.next(alloc, &mut source), Next::Quiet));
+                assert!(rt; matches!(&next(rt, alloc, &mut reader, &mut source), Next::Quiet));
                 assert_eq!(rt; source.quiets(), quiets);
             }
         }
         assert!(rt;
-            is_expected(&reader.next(alloc, &mut source), *expected),
+            is_expected(&next(rt, alloc, &mut reader, &mut source), *expected),
             "cut at {cut}"
         );
     }
@@ -103,7 +103,7 @@ fn messages_come_byte_by_byte(rt: HostRuntime) -> Result<(), Fail> {
     let mut reader = Reader::make(rt.alloc())?;
     let [update, stop] = two_calls();
     for expected in [update, stop, Expected::End, Expected::End] {
-        assert!(&rt; is_expected(&reader.next(rt.alloc(), &mut source), expected));
+        assert!(&rt; is_expected(&next(&rt, rt.alloc(), &mut reader, &mut source), expected));
     }
     Ok(())
 }
@@ -146,7 +146,7 @@ fn nothing_is_read_where_the_bytes_at_hand_decide(rt: HostRuntime) -> Result<(),
         (Expected::End, 2),
         (Expected::End, 2),
     ] {
-        assert!(&rt; is_expected(&reader.next(rt.alloc(), &mut source), expected));
+        assert!(&rt; is_expected(&next(&rt, rt.alloc(), &mut reader, &mut source), expected));
         assert_eq!(&rt; source.reads, reads);
     }
     Ok(())
@@ -162,9 +162,9 @@ fn many_messages_pass_through_the_window(rt: HostRuntime) -> Result<(), Fail> {
     let mut reader = Reader::make(rt.alloc())?;
     let call = Expected::Message(post(b"/a", b"xyz"));
     for _ in 0..400 {
-        assert!(&rt; is_expected(&reader.next(rt.alloc(), &mut source), call));
+        assert!(&rt; is_expected(&next(&rt, rt.alloc(), &mut reader, &mut source), call));
     }
-    assert!(&rt; matches!(&reader.next(rt.alloc(), &mut source), Next::End));
+    assert!(&rt; matches!(&next(&rt, rt.alloc(), &mut reader, &mut source), Next::End));
     Ok(())
 }
 
@@ -182,15 +182,15 @@ fn assert_long_body(
     let turns = vec![in alloc; Turn::Piece(piece); pieces]?;
     let mut source = source_of(alloc, &input, &turns)?;
     let mut reader = Reader::make(alloc)?;
-    match reader.next(alloc, &mut source) {
+    match next(rt, alloc, &mut reader, &mut source) {
         Next::Message(message) => {
             assert_eq!(rt; message.body.len(), 1_048_576);
             assert!(rt; message.body.iter().all(|b| *b == b'x'));
         }
         _ => assert!(rt; false, "pieces of {piece}"),
     }
-    assert!(rt; matches!(&reader.next(alloc, &mut source), Next::Message(_)));
-    assert!(rt; matches!(&reader.next(alloc, &mut source), Next::End));
+    assert!(rt; matches!(&next(rt, alloc, &mut reader, &mut source), Next::Message(_)));
+    assert!(rt; matches!(&next(rt, alloc, &mut reader, &mut source), Next::End));
     Ok(())
 }
 
@@ -209,10 +209,15 @@ fn source_that_stays_quiet_is_idle(rt: HostRuntime) -> Result<(), Fail> {
     let mut source = source_of(rt.alloc(), b"POST", &turns)?;
     let mut reader = Reader::make(rt.alloc())?;
     for _ in 0..1_198 {
-        assert!(&rt; matches!(&reader.next(rt.alloc(), &mut source), Next::Quiet));
+        assert!(&rt;
+            matches!(
+                &next(&rt, rt.alloc(), &mut reader, &mut source),
+                Next::Quiet
+            )
+        );
     }
     for _ in 0..2 {
-        assert!(&rt; matches!(&reader.next(rt.alloc(), &mut source), Next::Idle));
+        assert!(&rt; matches!(&next(&rt, rt.alloc(), &mut reader, &mut source), Next::Idle));
     }
     Ok(())
 }
@@ -241,8 +246,18 @@ fn failed_read_ends_the_reader(rt: HostRuntime) -> Result<(), Fail> {
         let plan = FaultList::new([place as u64].to_vec(rt.alloc())?);
         let mut source = MemorySource::new(input.to_vec(rt.alloc())?, turns, plan);
         let mut reader = Reader::make(rt.alloc())?;
-        assert!(&rt; matches!(&reader.next(rt.alloc(), &mut source), Next::Failed));
-        assert!(&rt; matches!(&reader.next(rt.alloc(), &mut source), Next::Failed));
+        assert!(&rt;
+            matches!(
+                &next(&rt, rt.alloc(), &mut reader, &mut source),
+                Next::Failed
+            )
+        );
+        assert!(&rt;
+            matches!(
+                &next(&rt, rt.alloc(), &mut reader, &mut source),
+                Next::Failed
+            )
+        );
         assert_eq!(&rt; source.given().len(), place);
     }
     Ok(())
