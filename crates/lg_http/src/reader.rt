@@ -1,4 +1,4 @@
-ghost use Rattle.std.specs.Prelude.{◌≡◌, ◌≢◌, false, ◌⊎◌, ℕ, List, [], ◌++◌, Some, None, IsSome, IfOk};
+ghost use Rattle.std.specs.Prelude.{◌≡◌, ◌≢◌, true, false, ◌⊎◌, ℕ, List, [], ◌++◌, Some, None, IsSome, IfOk};
 ghost use Rattle.lg_http.specs.declared.message.Next.TheVariants.{Failed};
 ghost use Rattle.lg_io.specs.Cause.{HasCause};
 ghost use Rattle.lg_http.specs.Answers.{Counts, Hears, Reads, ending_of, quiets_after};
@@ -62,13 +62,11 @@ impl Reader {
         self.over = answer.end();
         answer
     }
-}
 
-#[cfg(test)]
-impl Reader {
     /// Whether it gave its last message, behind which it isn't asked any more.
-    pub(crate) fn is_closed(&self) -> bool
-        ensures { result ≡ false → self.now.over ≢ Some ReaderEnd.Closed }
+    pub fn is_closed(&self) -> bool
+        ensures open { result ≡ false → self.now.over ≢ Some ReaderEnd.Closed }
+        ensures closed { result ≡ true → self.now.over ≡ Some ReaderEnd.Closed }
     {
         matches!(self.over, Some(ReaderEnd::Closed))
     }
