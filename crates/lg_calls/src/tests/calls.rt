@@ -45,8 +45,8 @@ fn payloads_make_requests(rt: HostRuntime) -> Result<(), Fail> {
 /// Names and payloads, and what comes of them as it shows: the payload is looked at last.
 static CALLS: [(&str, &str, &str); 6] = [
     ("nope", "[", "Err(UnknownMethod)"),
-    ("get_work", "[", "Err(NotBuilt)"),
-    ("get_work", r#"{"worker":"w"}"#, "Err(NotBuilt)"),
+    ("prune", "[", "Err(NotBuilt)"),
+    ("prune", "{}", "Err(NotBuilt)"),
     ("stop", "[", "Err(Refused(NotJson))"),
     ("stop", "{}", "Ok(Stop)"),
     (
