@@ -51,7 +51,7 @@ none-has id (m ∷ tasks) e =
     All-cons (λ task. has_id id task ≡ false) m tasks both.0 (none-has id tasks both.1)
 
 -- no other task of a list has the id of one
-only : (tasks : List Task) (task : Task) → have_distinct_ids tasks ≡ true → Contains tasks task → All (λ other. has_id task.id other ≡ true → other ≡ task) tasks
+pub only : (tasks : List Task) (task : Task) → have_distinct_ids tasks ≡ true → Contains tasks task → All (λ other. has_id task.id other ≡ true → other ≡ task) tasks
 only tasks task distinct there = by_found (find_task task.id tasks) refl
   where
     itself : has_id task.id task ≡ true
@@ -190,7 +190,7 @@ valid-assigned_again found s there runs valid =
 
 -- ---- which task is given
 
-here : {X : Type 0} (x : X) (xs : List X) → Contains (x ∷ xs) x
+pub here : {X : Type 0} (x : X) (xs : List X) → Contains (x ∷ xs) x
 here x xs = Contains-append_left (x ∷ []) xs x (Contains-push [] x)
 
 passing-step : (test : Task → Bool) (m : Task) (tasks : List Task) (found : Task)
@@ -200,31 +200,49 @@ passing-step test m tasks found behind true is e = subst (λ task. Contains (m �
 passing-step test m tasks found behind false is e = let there = behind e in (Contains-append_right (m ∷ []) tasks found there.0, there.1)
 
 -- the first that passes stands in the list, and passes
-passing : (test : Task → Bool) (tasks : List Task) (found : Task) → find test tasks ≡ Some found → Contains tasks found × (test found ≡ true)
+pub passing : (test : Task → Bool) (tasks : List Task) (found : Task) → find test tasks ≡ Some found → Contains tasks found × (test found ≡ true)
 passing test [] found e = absurd (none-some found e)
 passing test (m ∷ tasks) found e = passing-step test m tasks found (passing test tasks found) (test m) refl e
+
+-- ---- a worker that asks
+
+pub valid-heard : (ask : GetWork) (s : State) → IsValidState s → IsValidState (heard_asking ask s)
+valid-heard ask s valid =
+    let known = valid-known ask.worker s valid in
+    valid-put (record (heard_worker ask.worker s.moment s.workers) { last_get_work = Some s.moment }) s
+    (record { started = known.started; last_active = omega arith; last_get_work = omega arith; info = known.info }) valid
+
+pub valid-marked : (ask : GetWork) (s : State) → IsValidState s → IsValidState (assistant_marked ask s)
+valid-marked ask s valid = by_choice ask.assistant
+  where
+    marked : State
+    marked = assistant_marked (record ask { assistant = true }) s
+
+    by_choice : (b : Bool) → IsValidState (cond b marked s)
+    by_choice true = valid-worker_added (record { worker = ask.worker; info = assistant_info }) s valid
+    by_choice false = valid
 
 module _
     (ranks : (tasks : List Task) → IsTrue (have_rising_numbers tasks) → StandByRank tasks (by_rank tasks))
     (rising : (tasks : List Task) → IsTrue (have_rising_numbers tasks) → NumbersKeepRising tasks)
     (first : (ask : GetWork) (s : State) (task : Task) → first_candidate ask s ≡ Some task → IsFirst ask s task) where
   -- who is given again is RUNNING
-  lost : (ask : GetWork) (s : State) (task : Task) → IsValidState s → given_again ask s ≡ Some task → Contains s.tasks task × (is_status Running task.status ≡ true)
+  lost : (ask : GetWork) (s : State) (task : Task) → IsTrue (have_rising_numbers s.tasks) → given_again ask s ≡ Some task → Contains s.tasks task × (is_status Running task.status ≡ true)
   unfolding given_again
-  lost ask s task valid e = by_known ask.current_tasks e
+  lost ask s task rise e = by_known ask.current_tasks e
     where
       by_known : (known : Option (List (List ℕ))) → option_and_then (first_lost ask.worker s.tasks) known ≡ Some task
           → Contains s.tasks task × (is_status Running task.status ≡ true)
       by_known None e = absurd (none-some task e)
       by_known (Some known) e =
           let found = passing (was_lost ask.worker known) (by_rank s.tasks) task e in
-          ((ranks s.tasks valid.numbers_rise).no_others task found.0, and-first _ _ found.1)
+          ((ranks s.tasks rise).no_others task found.0, and-first _ _ found.1)
 
-  walked : (worker : List ℕ) (s : State) (task : Task) → IsValidState s → Contains (walk worker s) task → Contains s.tasks task
+  walked : (worker : List ℕ) (s : State) (task : Task) → IsTrue (have_rising_numbers s.tasks) → Contains (walk worker s) task → Contains s.tasks task
   unfolding walk
-  walked worker s task valid there =
+  walked worker s task rise there =
       let goes : Task → Bool = goes_over (is_trivial worker s) worker in
-      let among = (ranks (filter goes s.tasks) ((rising s.tasks valid.numbers_rise).kept goes)).no_others task there in
+      let among = (ranks (filter goes s.tasks) ((rising s.tasks rise).kept goes)).no_others task there in
       All-contains (Contains s.tasks) (filter goes s.tasks) task (All-filter goes (Contains s.tasks) s.tasks (All-contains_itself s.tasks)) among
 
   ready-waits : (tasks : List Task) (task : Task) → is_ready tasks task ≡ true → is_status Pending task.status ≡ true
@@ -232,15 +250,15 @@ module _
   ready-waits tasks task ready = and-first _ _ ready
 
   -- who is given anew is PENDING
-  chosen : (ask : GetWork) (s : State) (task : Task) → IsValidState s → newly_chosen ask s ≡ Some task → Contains s.tasks task × (is_status Pending task.status ≡ true)
-  chosen ask s task valid e = by_pause s.paused e
+  pub chosen : (ask : GetWork) (s : State) (task : Task) → IsTrue (have_rising_numbers s.tasks) → newly_chosen ask s ≡ Some task → Contains s.tasks task × (is_status Pending task.status ≡ true)
+  chosen ask s task rise e = by_pause s.paused e
     where
       by_pause : (paused : Bool) → cond paused None (first_candidate ask s) ≡ Some task → Contains s.tasks task × (is_status Pending task.status ≡ true)
       by_pause true e = absurd (none-some task e)
       by_pause false e =
           let is = first ask s task e in
           let kept = and-first (can_be_kept s (reserved ask s is.front) task) _ is.candidate in (
-            walked ask.worker s task valid (subst (λ tasks. Contains tasks task) (sym is.in_walk) (Contains-append_right is.front (task ∷ is.rest) task (here task is.rest))),
+            walked ask.worker s task rise (subst (λ tasks. Contains tasks task) (sym is.in_walk) (Contains-append_right is.front (task ∷ is.rest) task (here task is.rest))),
             ready-waits s.tasks task (and-first _ _ kept),
           )
 
@@ -249,32 +267,16 @@ module _
     where
       by_choice : (choice : Option Task) → newly_chosen ask s ≡ choice → IsValidState (option_map_or (λ (task : Task). assigned ask.worker task.id s) choice s)
       by_choice None none = valid
-      by_choice (Some task) is = let facts = chosen ask s task valid is in valid-assigned ask.worker task s facts.0 facts.1 valid
+      by_choice (Some task) is = let facts = chosen ask s task valid.numbers_rise is in valid-assigned ask.worker task s facts.0 facts.1 valid
 
   valid-given_to : (base : State) (ask : GetWork) (s : State) → IsValidState s → IsValidState (where_replied base (given_to ask s)).0
   valid-given_to base ask s valid = by_choice (given_again ask s) refl
     where
       by_choice : (choice : Option Task) → given_again ask s ≡ choice → IsValidState (where_replied base (given_or_again ask s choice)).0
       by_choice None none = valid-newly_given base ask s valid
-      by_choice (Some task) is = let facts = lost ask s task valid is in valid-assigned_again task s facts.0 facts.1 valid
+      by_choice (Some task) is = let facts = lost ask s task valid.numbers_rise is in valid-assigned_again task s facts.0 facts.1 valid
 
   -- ---- the whole
-
-  valid-heard : (ask : GetWork) (s : State) → IsValidState s → IsValidState (heard_asking ask s)
-  valid-heard ask s valid =
-      let known = valid-known ask.worker s valid in
-      valid-put (record (heard_worker ask.worker s.moment s.workers) { last_get_work = Some s.moment }) s
-      (record { started = known.started; last_active = omega arith; last_get_work = omega arith; info = known.info }) valid
-
-  valid-marked : (ask : GetWork) (s : State) → IsValidState s → IsValidState (assistant_marked ask s)
-  valid-marked ask s valid = by_choice ask.assistant
-    where
-      marked : State
-      marked = assistant_marked (record ask { assistant = true }) s
-
-      by_choice : (b : Bool) → IsValidState (cond b marked s)
-      by_choice true = valid-worker_added (record { worker = ask.worker; info = assistant_info }) s valid
-      by_choice false = valid
 
   pub valid-work_given : (base : State) (ask : GetWork) (s : State) → IsValidState s → IsValidState (where_replied base (work_given ask s)).0
   unfolding work_given

@@ -1,11 +1,15 @@
 mod AddedLemmas
 mod AddingLemmas
+mod AskingLemmas
+mod AssignLemmas
+mod CandidateLawLemmas
 mod DescribedLemmas
 mod DistinctLemmas
 mod GivenLemmas
 mod IndexLemmas
 mod KeptLemmas
 mod LawLemmas
+mod LimitLawLemmas
 mod ListLemmas
 mod MeantLemmas
 mod OrderedLemmas
@@ -20,6 +24,9 @@ mod RuleLemmas
 mod SettlingLemmas
 mod StatusLemmas
 mod StepLemmas
+mod ToldLemmas
 mod UrgingLemmas
 mod ValidityLemmas
 mod WalkLemmas
+mod WithinLemmas
+mod WorkLawLemmas

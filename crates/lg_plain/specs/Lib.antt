@@ -5,3 +5,4 @@ pub mod Plain
 pub mod Prepared
 pub mod Requests
 pub mod Walking
+pub mod WorkLaws

@@ -2,6 +2,7 @@
 #![tactic(auto)]
 
 mod adding;
+mod assign;
 mod change;
 mod index;
 pub mod laws;
@@ -14,5 +15,6 @@ mod step;
 #[cfg(test)]
 mod tests;
 mod walk;
+pub mod work_laws;
 
 pub use plain::Plain;

@@ -1,6 +1,6 @@
 //! Raised priorities: a task that something urgent waits for becomes urgent. First the walk marks which tasks are raised,
 //! and then they are changed in place. The walk looks at each of them once, and doesn't recurse.
-ghost use Rattle.std.specs.Prelude.{◌≡◌, ◌<◌, ◌≤◌, ◌^◌, int_lt, IsTrue, OnOk, OnErr, [], ◌∷◌, length};
+ghost use Rattle.std.specs.Prelude.{◌≡◌, ◌<◌, int_lt, IsTrue, OnOk, OnErr, [], ◌∷◌, length};
 ghost use Rattle.lg_calls.specs.Raising.{goes_to, goes_on, is_raised, raised};
 ghost use Rattle.lg_calls.specs.Tasks.{have_distinct_ids};
 ghost use Rattle.lg_plain.specs.Index.{HasRoom, IsIndexOf};

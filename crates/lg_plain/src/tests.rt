@@ -22,6 +22,7 @@ mod rising;
 mod rules;
 mod steps;
 mod windows;
+mod work;
 
 // Two failures within the hour are too many.
 const TWICE_AN_HOUR: Policy = Policy {

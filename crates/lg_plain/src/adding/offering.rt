@@ -1,5 +1,5 @@
 //! How urgent a task is, how often it may fail, and who can run it.
-ghost use Rattle.std.specs.Prelude.{◌≡◌, ◌*◌, ◌<◌, ◌^◌, IsTrue, OnOk, option_map, unwrap_or};
+ghost use Rattle.std.specs.Prelude.{◌≡◌, ◌*◌, ◌<◌, IsTrue, OnOk, option_map, unwrap_or};
 ghost use Rattle.std.specs.List.{list_any};
 ghost use Rattle.lg_calls.specs.Order.{is_same};
 ghost use Rattle.lg_calls.specs.RetryEntries.{is_entry, is_policy};

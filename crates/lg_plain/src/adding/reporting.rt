@@ -2,7 +2,7 @@
 ghost use Rattle.std.specs.Prelude.{◌≡◌, [], IfOk, OnOk, find};
 ghost use Rattle.std.specs.Option.{option_copied, option_map_or};
 ghost use Rattle.lg_calls.specs.Status.{runs_in};
-ghost use Rattle.lg_calls.specs.AddTask.Reporting.{became_running, run_begun, counts, deps_behind, is_nonempty, is_of_run, replaces_resources, resources_behind, resources_given, runs_for, status_of, with_deps, with_ids};
+ghost use Rattle.lg_calls.specs.AddTask.Reporting.{became_running, run_begun, counts, is_nonempty, is_of_run, replaces_resources, resources_behind, resources_given, runs_for, status_of, with_deps, with_ids};
 
 use super::places::put;
 use crate::change::is_batch;

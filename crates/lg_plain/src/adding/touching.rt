@@ -51,8 +51,8 @@ fn find_worker<'a>(workers: &'a [WorkerRec], id: &WorkerId) -> Option<&'a Worker
     workers.iter().find(|worker| id.cmp(&worker.id).is_eq())
 }
 
-// The worker of an id as it is heard of at a moment.
-fn heard_worker(
+/// The worker of an id as it is heard of at a moment.
+pub(crate) fn heard_worker(
     alloc: Global,
     workers: &[WorkerRec],
     id: &WorkerId,

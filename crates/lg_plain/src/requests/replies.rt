@@ -50,7 +50,8 @@ fn status_shown(alloc: Global, status: Option<Status>) -> Result<Out, NoMemory>
     }
 }
 
-fn named(alloc: Global, name: &str) -> Result<Name, NoMemory>
+/// A name of its own.
+pub(super) fn named(alloc: Global, name: &str) -> Result<Name, NoMemory>
     ensures { IfOk result (λ made. made ≡ name.now) }
 {
     Ok(Name::from(Text::copied(alloc, name)?))

@@ -1,8 +1,8 @@
 //! A task is set to another status by hand.
 ghost use Rattle.std.specs.Prelude.{◌≡◌, ◌+◌, ◌<◌, ◌^◌, false};
-ghost use Rattle.std.specs.Option.{option_copied, option_map};
+ghost use Rattle.std.specs.Option.{option_map};
 ghost use Rattle.lg_json.specs.Tree.{str};
-ghost use Rattle.lg_calls.specs.Settling.{can_be_done, can_be_forgiven, failures_forgiven, marked_as_done, settled, status_told};
+ghost use Rattle.lg_calls.specs.Settling.{failures_forgiven, marked_as_done, settled, status_told};
 ghost use Rattle.lg_calls.specs.Status.{set_status};
 ghost use Rattle.lg_calls.specs.Tasks.{find_task};
 ghost use Rattle.lg_calls.specs.Valid.{is_running, IsValidState};

@@ -42,8 +42,12 @@ pub(super) fn add_worker(
     Ok(Reply(Out::Null))
 }
 
-// What is told of a worker. Where there is no memory the worker is left anyhow.
-fn inform(worker: &mut WorkerRec, alloc: Global, infos: &[(Name, Info)]) -> Result<(), NoMemory>
+/// What is told of a worker. Where there is no memory the worker is left anyhow.
+pub(super) fn inform(
+    worker: &mut WorkerRec,
+    alloc: Global,
+    infos: &[(Name, Info)],
+) -> Result<(), NoMemory>
     ensures { OnOk result (worker.new ≡ informed infos.now worker.old) }
 {
     let mut known = mem::replace(&mut worker.info, Seq::new(alloc)).into_vec();

@@ -1,5 +1,5 @@
 //! `add_task` on states of few tasks.
-ghost use Rattle.std.specs.Prelude.{◌≡◌, ◌+◌, ◌<◌, ◌^◌, IfOk, IsTrue};
+ghost use Rattle.std.specs.Prelude.{◌+◌, ◌<◌, ◌^◌, IfOk, IsTrue};
 ghost use Rattle.lg_calls.specs.Methods.AddTask.{add_task_in_range};
 ghost use Rattle.lg_calls.specs.Tasks.{have_distinct_ids};
 
