@@ -19,6 +19,7 @@ mod ends;
 mod links;
 mod refusals;
 mod sessions;
+mod working;
 
 /// A call that sets a limit, and a stop.
 const TWO_CALLS: &[u8] =
@@ -35,13 +36,15 @@ const TWO_RESPONSES: &[u8] =
 const NULL_AT: usize = 88;
 
 /// What the outside does: the inputs of the links that come; how many bytes a read gives and a write takes at most; how often
-/// a link is quiet before its first byte; and which calls fail, by their numbers, those of one link among them.
+/// a link is quiet before its first byte; the moments of the calls, the last of which goes on; and which calls fail, by their
+/// numbers, those of one link among them.
 #[derive(Clone, Copy)]
 struct Script<'a, 'b> {
     words: &'static [&'static str],
     inputs: &'a [&'b [u8]],
     most: usize,
     quiets: usize,
+    moments: &'static [Moment],
     faulty: usize,
     read: Option<u64>,
     write: Option<u64>,
@@ -55,6 +58,7 @@ const PLAIN: Script<'static, 'static> = Script {
     inputs: &[],
     most: 4096,
     quiets: 1,
+    moments: &[Moment(5)],
     faulty: 0,
     read: None,
     write: None,
@@ -113,7 +117,7 @@ fn door_of(alloc: Global, script: &Script<'_, '_>) -> Result<MemoryDoor<FaultLis
     for (number, input) in script.inputs.iter().enumerate() {
         visits.push(Visit::Conn(link_of(alloc, script, number, input)?))?;
     }
-    let clock = MemoryClock::new(alloc, [Moment(5)].to_vec(alloc)?, 4)?;
+    let clock = MemoryClock::new(alloc, script.moments.to_vec(alloc)?, 4)?;
     Ok(MemoryDoor::new(alloc, visits, clock, plan(alloc, script.accept)?))
 }
 

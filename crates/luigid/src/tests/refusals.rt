@@ -206,7 +206,7 @@ const REFUSED: [(&[u8], &[u8]); 26] = [
         UNKNOWN_METHOD,
     ),
     (
-        b"POST /api/get_work HTTP/1.1\r\nHost: x\r\nContent-Length: 6\r\n\r\ndata=x",
+        b"POST /api/prune HTTP/1.1\r\nHost: x\r\nContent-Length: 6\r\n\r\ndata=x",
         NOT_BUILT,
     ),
     (

@@ -1,13 +1,14 @@
 //! Sessions of a user, call by call.
 use super::{PLAIN, Script, assert_served};
 use crate::audit::LifeEnd;
+use lg_base::Moment;
 use std::alloc::{AllocError, Global};
 use std::process::Abort;
 use std::sync::Wait;
 use std::test::Fail;
 
 /// A call: its method, its payload, and what stands under `response`.
-type Call = (&'static str, &'static str, &'static str);
+pub(super) type Call = (&'static str, &'static str, &'static str);
 
 /// Three tasks that depend on each other are declared and reported, and one is forgiven.
 const CHAIN: [Call; 9] = [
@@ -118,7 +119,21 @@ fn response(alloc: Global, method: &str, reply: &str) -> Result<String, AllocErr
 }
 
 /// Makes the calls over one link, and compares each response to the byte. Each call is entered.
-fn assert_answered<R: Wait + Abort>(rt: &R, alloc: Global, calls: &[Call]) -> Result<(), Fail> {
+pub(super) fn assert_answered<R: Wait + Abort>(
+    rt: &R,
+    alloc: Global,
+    calls: &[Call],
+) -> Result<(), Fail> {
+    assert_answered_at(rt, alloc, &[Moment(5)], calls)
+}
+
+/// The same at these moments, one a call; behind them the last stays.
+pub(super) fn assert_answered_at<R: Wait + Abort>(
+    rt: &R,
+    alloc: Global,
+    moments: &'static [Moment],
+    calls: &[Call],
+) -> Result<(), Fail> {
     let mut input = String::new(alloc);
     let mut output = String::new(alloc);
     for (method, payload, reply) in calls {
@@ -127,6 +142,7 @@ fn assert_answered<R: Wait + Abort>(rt: &R, alloc: Global, calls: &[Call]) -> Re
     }
     let script = Script {
         inputs: &[input.as_bytes()],
+        moments,
         ..PLAIN
     };
     assert_served(
