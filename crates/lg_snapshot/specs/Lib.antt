@@ -1,12 +1,16 @@
 pub mod Commas
+pub mod FileCalls
 pub mod Fitting
 pub mod Holding
 pub mod Kinds
+pub mod Loading
 pub mod Parsing
 pub mod Reading
 pub mod RecordReadings
 pub mod Records
 pub mod Rising
+pub mod SaveFaults
+pub mod Saving
 pub mod Snapshot
 pub mod StateReading
 pub mod TaskReading

@@ -1,6 +1,6 @@
 //! The kinds of values that a snapshot has, read from JSON.
 ghost use Rattle.serde_json.specs.Find.{as_bool, as_str};
-ghost use Rattle.serde_json.specs.View.{view, items_view};
+ghost use Rattle.serde_json.specs.View.{items_view};
 ghost use Rattle.lg_snapshot.specs.Kinds as spec;
 ghost use Rattle.lg_snapshot.specs.Reading.{Answers};
 

@@ -1,7 +1,6 @@
 //! Whether a task of a state is valid.
 ghost use Rattle.std.specs.Prelude.{◌≡◌, IfOk};
 ghost use Rattle.std.specs.List.{list_all};
-ghost use Rattle.lg_calls.specs.Task.{Task};
 ghost use Rattle.lg_snapshot.specs.Validity as spec;
 
 use crate::order::{are_distinct, rise};

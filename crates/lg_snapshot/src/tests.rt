@@ -217,7 +217,7 @@ fn batchers(alloc: Global) -> Result<Seq<BatcherRec>, NoMemory> {
 }
 
 // A state in which each field of each record is set somewhere, and absent somewhere.
-fn full_state(alloc: Global) -> Result<State, NoMemory> {
+pub(crate) fn full_state(alloc: Global) -> Result<State, NoMemory> {
     let mut state = State::empty(alloc, Settings::new());
     state.tasks = tasks(alloc)?;
     state.workers = workers(alloc)?;
@@ -234,7 +234,7 @@ fn encoded(alloc: Global, state: &State) -> Result<Text, NoMemory> {
 }
 
 /// The text of the state in which a scheduler begins.
-const EMPTY: &str =
+pub(crate) const EMPTY: &str =
     "{\"batchers\":[],\"limits\":{},\"moment\":0,\"next\":0,\"paused\":false,\"tasks\":[],\"version\":1,\"workers\":[]}\n";
 
 /// The text of the state with one limit, which was set at the moment 5.
@@ -242,7 +242,7 @@ const ONE_LIMIT: &str =
     "{\"batchers\":[],\"limits\":{\"gpu\":2},\"moment\":5,\"next\":0,\"paused\":false,\"tasks\":[],\"version\":1,\"workers\":[]}\n";
 
 /// The text of the full state.
-const FULL: &str =
+pub(crate) const FULL: &str =
     "{\"batchers\":[{\"family\":\"Copy\",\"names\":[\"day\",\"\\u00e9\"],\"size\":311,\"worker\":\"worker_c\"},\
     {\"family\":\"Move\",\"names\":[],\"size\":null,\"worker\":\"worker_c\"}],\"limits\":{\"db\":0,\"gpu\":4294967295},\
     \"moment\":412,\"next\":414,\"paused\":true,\"tasks\":[{\"accepts_messages\":true,\"added\":115,\
