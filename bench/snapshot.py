@@ -15,20 +15,10 @@ import tempfile
 
 COUNTS = [1_000, 10_000, 100_000]
 ROUNDS = 3
-LIBRARIES = ["lg_base", "lg_io", "lg_json", "lg_retry", "lg_calls", "lg_snapshot"]
+LIBRARIES = ["lg_base", "lg_io", "lg_json", "lg_retry", "lg_target", "lg_calls", "lg_snapshot"]
 
-PROGRAM = """//! Writes the text of a state of so many tasks, and reads it back.
-#![tactic(auto)]
-
-use lg_base::{Amounts, Moment, Name, NoMemory, Seq, TaskId, Text, WorkerId};
-use lg_calls::{Settings, State, Status, TaskRec};
-use lg_retry::{Failures, Policy};
-use lg_snapshot::{decode, encode};
-use std::alloc::Global;
-use std::rt::Clock;
-use std::time::Instant;
-
-fn text(alloc: Global, word: &str) -> Result<Text, NoMemory> {
+# The functions of a program that make a state of so many tasks.
+STATES = """fn text(alloc: Global, word: &str) -> Result<Text, NoMemory> {
     Ok(Text::copied(alloc, word)?)
 }
 
@@ -116,7 +106,23 @@ fn state(alloc: Global, count: u64, settings: &Settings) -> Result<State, NoMemo
     state.next = count;
     Ok(state)
 }
+"""
 
+PROGRAM = (
+    """//! Writes the text of a state of so many tasks, and reads it back.
+#![tactic(auto)]
+
+use lg_base::{Amounts, Moment, Name, NoMemory, Seq, TaskId, Text, WorkerId};
+use lg_calls::{Settings, State, Status, TaskRec};
+use lg_retry::{Failures, Policy};
+use lg_snapshot::{decode, encode};
+use std::alloc::Global;
+use std::rt::Clock;
+use std::time::Instant;
+
+"""
+    + STATES
+    + """
 fn measured<R: Clock>(rt: &R, alloc: Global, count: u64) -> Result<(u128, u128), NoMemory> {
     let settings = Settings::new();
     let state = state(alloc, count, &settings)?;
@@ -140,10 +146,11 @@ fn main(rt: HostRuntime) -> Result<(), NoMemory> {
     Ok(())
 }
 """.replace("COUNTS", ", ".join(str(count) for count in COUNTS))
+)
 
 
-def built(top, folder):
-    """The program, proved and built over this repository's `lg_snapshot`."""
+def built(top, folder, program, libraries):
+    """A program, proved and built over these libraries of the repository and the crates below them."""
     lines = (top / "crates.txt").read_text(encoding="utf-8").splitlines()
     kept = [line for line in lines if line.split(":")[0] in LIBRARIES]
     for name in LIBRARIES:
@@ -151,8 +158,8 @@ def built(top, folder):
         shutil.copytree(crate, folder / "crates" / name, ignore=lambda at, _: ["out"] if pathlib.Path(at) == crate else [])
     saves = folder / "crates" / "saves"
     (saves / "src").mkdir(parents=True)
-    (saves / "src" / "main.rt").write_text(PROGRAM, encoding="utf-8")
-    kept.append("saves: lg_base lg_retry lg_calls lg_snapshot")
+    (saves / "src" / "main.rt").write_text(program, encoding="utf-8")
+    kept.append(f"saves: {libraries}")
     (folder / "crates.txt").write_text("\n".join(kept) + "\n")
     shutil.copy(top / "HANDLES", folder / "HANDLES")
     subprocess.run(["rt", "run"], cwd=saves, check=True, stdout=subprocess.DEVNULL, stderr=subprocess.DEVNULL)
@@ -171,7 +178,7 @@ def best_of(program):
 def main():
     top = pathlib.Path(__file__).resolve().parent.parent
     with tempfile.TemporaryDirectory() as folder:
-        times = best_of(built(top, pathlib.Path(folder)))
+        times = best_of(built(top, pathlib.Path(folder), PROGRAM, "lg_base lg_retry lg_calls lg_snapshot"))
     for count, (written, read) in zip(COUNTS, times):
         print(f"{count:>7} tasks: written in {written / 1000:.1f} ms, read in {read / 1000:.1f} ms")
     growth = COUNTS[-1] / COUNTS[0]
