@@ -1,7 +1,6 @@
 //! The worked rows, and a task with each kind of field.
 
-mod pending;
-mod work;
+mod counting;
 
 ghost use Rattle.std.specs.Prelude.{◌≡◌, ◌≢◌, IfOk, IsTrue, is_some, false};
 ghost use Rattle.lg_calls.specs.Order.{are_sorted, are_distinct};
