@@ -33,6 +33,7 @@ use lg_snapshot::{SaveFault, save};
 use std::alloc::Global;
 use std::env;
 use std::process::ExitCode;
+use std::rt::Env;
 
 """
     + STATES
